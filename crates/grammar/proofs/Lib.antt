@@ -1,0 +1,5 @@
+pub mod Comparing
+pub mod Exemplars
+pub mod Placing
+pub mod Taping
+pub mod Writing

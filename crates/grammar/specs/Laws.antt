@@ -1,0 +1,35 @@
+-- What holds of tapes, orders and places, whatever was joined. Each law is carried by a function of src/laws.rt.
+use mathlib.Core.Path.{_≡_}
+use mathlib.Core.Bool.{true}
+use mathlib.Core.List.{List, [], _∷_, _++_}
+use Prim.Native.Nat.{ℕ, _+_, _<_, _≤_}
+use lib.ListN.{length, getD}
+use Rattle.grammar.specs.Orders.{ahead, foreKey, backKey, StrictTotal}
+use Rattle.grammar.specs.Places.{places, AllPlaces}
+use Rattle.grammar.specs.Tapes.{tape, tapes, strands, wellJoined}
+
+-- the tape of byte strand c is byte c
+abbrev pub ByteTapes : Type 0
+ByteTapes = (pairs : List (ℕ × ℕ)) (c : ℕ) → c < 256 → tape pairs c ≡ c ∷ []
+
+-- a pair's tape is its left part's followed by its right part's
+abbrev pub PairTapes : Type 0
+PairTapes =
+    (pairs : List (ℕ × ℕ)) (k : ℕ) → wellJoined pairs ≡ true → k < length pairs
+    → tape pairs (256 + k) ≡ tape pairs (getD pairs k (0, 0) .0) ++ tape pairs (getD pairs k (0, 0) .1)
+
+-- a join leaves every older tape as it was
+abbrev pub OlderTapesStay : Type 0
+OlderTapesStay = (pairs more : List (ℕ × ℕ)) (strand : ℕ) → strand < strands pairs → tape (pairs ++ more) strand ≡ tape pairs strand
+
+-- each order is strict and total
+abbrev pub OrdersAreTotal : Type 0
+OrdersAreTotal = (pairs : List (ℕ × ℕ)) → StrictTotal (ahead (foreKey pairs)) × StrictTotal (ahead (backKey pairs))
+
+-- the list of places rises, holds only places and leaves none out
+abbrev pub PlacesAreAll : Type 0
+PlacesAreAll = (pattern tape : List ℕ) → 1 ≤ length pattern → AllPlaces pattern tape (places pattern tape)
+
+-- such a list is the only one
+abbrev pub PlacesAreUnique : Type 0
+PlacesAreUnique = (pattern tape found : List ℕ) → 1 ≤ length pattern → AllPlaces pattern tape found → found ≡ places pattern tape

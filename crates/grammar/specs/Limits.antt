@@ -1,0 +1,22 @@
+-- The limits of a book, of a pattern and of a book file.
+use Prim.Native.Nat.{ℕ}
+
+abbrev pub byteStrands : ℕ
+byteStrands = 256
+
+-- byte strands included
+abbrev pub maxStrands : ℕ
+maxStrands = 2048
+
+abbrev pub maxPairs : ℕ
+maxPairs = 1792
+
+-- in bytes
+abbrev pub maxTape : ℕ
+maxTape = 65536
+
+abbrev pub maxPattern : ℕ
+maxPattern = 64
+
+abbrev pub maxLines : ℕ
+maxLines = 1024
