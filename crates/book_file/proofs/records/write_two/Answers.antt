@@ -1,0 +1,11 @@
+use mathlib.Core.Path.{refl, _∙_}
+use native.Mathlib.Omega.{arith}
+use Rattle.grammar.proofs.Writing.{written-part}
+use Rattle.book_file.specs.Layout.{two}
+use Rattle.book_file.proofs.Numbers.{bytes-of-two}
+use Rattle.book_file.proofs.records.write_two.Needs as need
+
+pub returns : need.returns
+returns c =
+    let bytes = c .copy-from-slice .ensures .after ∙ c .to-le-bytes .ensures ∙ bytes-of-two (c .args .n) (omega arith) in
+    record { next = refl; after = written-part (c .args .buffer .now) (c .args .place) _ _ (two (c .args .n)) bytes (omega arith) }
