@@ -1,0 +1,2 @@
+// What the surveyor sees, as functions from bytes to text.
+pub mod listing;
