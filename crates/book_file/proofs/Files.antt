@@ -2,22 +2,23 @@
 use mathlib.Core.Path.{_≡_, refl, sym, ap, subst, _∙_}
 use mathlib.Core.Bool.{true, false, not}
 use mathlib.Core.List.{List, [], _∷_, _++_}
+use mathlib.Core.Logic.{⊎-elim}
 use Prim.Native.Nat.{ℕ, _+_, _*_, _/_, _%_, _<_, _≤_}
 use native.Mathlib.Omega.{arith}
 use lib.Dec.{eqb, ltb}
-use lib.ListN.{length, length-append}
+use lib.ListN.{length, getD, take, length-append}
 use Rattle.std.specs.Joined.{joined}
 use Rattle.std.specs.declared.option.Option.the-variants.{Some, None}
-use Rattle.std.proofs.shelf.Lists.{append-nil, nil-from-length}
-use Rattle.std.proofs.shelf.Tests.{le-ltb, lt-ltb, eq-eqb}
+use Rattle.std.proofs.shelf.Lists.{append-nil, nil-from-length, take-all, getD-take, length-take-le}
+use Rattle.std.proofs.shelf.Tests.{cases-lt, le-ltb, lt-ltb, eq-eqb}
 use Rattle.std.proofs.shelf.Ways.{tells}
-use Rattle.grammar.specs.Limits.{maxPairs, maxLines}
+use Rattle.grammar.specs.Limits.{maxPairs, maxLines, maxFile}
 use Rattle.grammar.specs.Refusals.{firstOf}
 use Rattle.grammar.specs.declared.refusals.Refusal.the-variants.{FileShort}
 use Rattle.grammar.specs.declared.strands.Pair.{Pair}
 use Rattle.grammar.specs.declared.strands.Strand.{Strand}
 use Rattle.book_file.specs.Contents.{Opened}
-use Rattle.book_file.specs.Laws.{FileTellsContent, FilesAreAccepted}
+use Rattle.book_file.specs.Laws.{FileTellsContent, FilesAreAccepted, LongFilesReadAlike}
 use Rattle.book_file.specs.Layout.{two, four, pairBytes, lineBytes, headerBytes, headerOf, sizeOf, fileOf, field, headerIn, headerFaults, layoutFault, encodeFault}
 use Rattle.book_file.specs.declared.records.Header.{Header}
 use Rattle.book_file.specs.declared.records.LineRecord.{LineRecord}
@@ -187,3 +188,45 @@ within-limits ps ls e =
   where
     limits : (p q n : ℕ) → firstOf (headerFaults (headerOf p q) n) ≡ None → (p ≤ maxPairs) × (q ≤ maxLines)
     limits p q n none = (grind (arith, tells), grind (arith, tells))
+
+-- beyond the largest file the byte count does not matter
+long-alike : (h : Header) (m n : ℕ) → maxFile < m → maxFile < n → firstOf (headerFaults h m) ≡ firstOf (headerFaults h n)
+long-alike h m n a b = grind (arith, tells)
+
+-- the header's bytes are among the first k
+same-header-in : (k : ℕ) (bytes : List ℕ) → 16 ≤ k → headerIn (take k bytes) ≡ headerIn bytes
+same-header-in k bytes h =
+    let at : (i : ℕ) → i < 16 → getD (take k bytes) i 0 ≡ getD bytes i 0 = λ i l. getD-take k bytes i 0 (omega arith) in
+    let b0 = at 0 (omega arith) in
+    let b1 = at 1 (omega arith) in
+    let b2 = at 2 (omega arith) in
+    let b3 = at 3 (omega arith) in
+    let b4 = at 4 (omega arith) in
+    let b5 = at 5 (omega arith) in
+    let b6 = at 6 (omega arith) in
+    let b7 = at 7 (omega arith) in
+    let b8 = at 8 (omega arith) in
+    let b9 = at 9 (omega arith) in
+    let b10 = at 10 (omega arith) in
+    let b11 = at 11 (omega arith) in
+    let b12 = at 12 (omega arith) in
+    let b13 = at 13 (omega arith) in
+    let b14 = at 14 (omega arith) in
+    let b15 = at 15 (omega arith) in
+    same-header (headerIn (take k bytes)) (headerIn bytes) (cc) (cc) (cc) (cc) (cc)
+
+pub long-files-read-alike : LongFilesReadAlike
+unfolding layoutFault
+long-files-read-alike bytes = ⊎-elim whole cut (cases-lt (length bytes) (maxFile + 1))
+  where
+    whole : length bytes < maxFile + 1 → layoutFault (take (maxFile + 1) bytes) ≡ layoutFault bytes
+    whole h = ap layoutFault (take-all (maxFile + 1) bytes (omega arith))
+
+    cut : maxFile + 1 ≤ length bytes → layoutFault (take (maxFile + 1) bytes) ≡ layoutFault bytes
+    cut h =
+        let front = take (maxFile + 1) bytes in
+        let long : length front ≡ maxFile + 1 = length-take-le (maxFile + 1) bytes h in
+        let a = le-ltb (length front) 16 (omega arith) in
+        let b = le-ltb (length bytes) 16 (omega arith) in
+        let header = ap (λ g. firstOf (headerFaults g (length front))) (same-header-in (maxFile + 1) bytes (omega arith)) in
+        let alike = long-alike (headerIn bytes) (length front) (length bytes) (omega arith) (omega arith) in cc

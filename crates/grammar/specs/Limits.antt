@@ -20,3 +20,7 @@ maxPattern = 64
 
 abbrev pub maxLines : ℕ
 maxLines = 1024
+
+-- in bytes: the header, and as many pairs and lines as there can be
+abbrev pub maxFile : ℕ
+maxFile = 15376

@@ -17,3 +17,6 @@ pub const MAX_PATTERN: usize = 64;
 
 // A book file has at most this many lines.
 pub const MAX_LINES: u16 = 1024;
+
+// No book file has more bytes: the header, and as many pairs and lines as there can be.
+pub const MAX_FILE: usize = 15376;

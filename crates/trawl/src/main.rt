@@ -1,22 +1,24 @@
 // Tells what the book file `survey.book` in the current folder holds, or why it is refused.
-use std::alloc::Global;
+use grammar::limits::MAX_FILE;
 use std::fs;
 use std::io;
+use std::io::Read;
 use std::io::Write;
-use std::rt::Files;
 
-// The file's bytes; a missing file counts as one of no bytes.
-fn read_survey(rt: &(impl Files + Alloc<A = Global>), path: &str) -> io::Result<Vec<u8>> {
-    match fs::read(rt, path) {
-        Ok(bytes) => Ok(bytes),
+// The file's bytes, up to one more than a book file can have; a missing file counts as one of no bytes.
+fn read_survey(rt: &LibcRuntime, path: &str) -> io::Result<Vec<u8>> {
+    let mut bytes = Vec::new(rt.alloc());
+    match fs::open(rt, path) {
+        Ok(file) => {
+            file.take(MAX_FILE as u64 + 1).read_to_end(&mut bytes)?;
+        }
         Err(error) => {
-            if error.kind() == io::ErrorKind::NotFound {
-                Ok(Vec::new(rt.alloc()))
-            } else {
-                Err(error)
+            if error.kind() != io::ErrorKind::NotFound {
+                return Err(error);
             }
         }
     }
+    Ok(bytes)
 }
 
 fn run(rt: &LibcRuntime) -> io::Result<()> {
