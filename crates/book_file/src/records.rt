@@ -12,7 +12,7 @@ use grammar::strands::StrandDebug;
 use grammar::strands::StrandPartialEq;
 
 // A record of a fixed width.
-pub trait Record: Copy {
+pub(crate) trait Record: Copy {
     ghost width: { ℕ };
 
     // the bytes that stand for the record in a file
@@ -53,7 +53,7 @@ fn write_four(buffer: &mut [u8], place: usize, n: u32) -> usize
 
 // What a file says of itself, in the order of its fields.
 #[derive(Clone, Copy, PartialEq, Eq, Debug)]
-pub struct Header {
+pub(crate) struct Header {
     pub size: u32,
     pub pairs: u16,
     pub lines: u16,
@@ -61,7 +61,7 @@ pub struct Header {
     pub line_table: u32,
 }
 
-pub impl Record for Header as HeaderRecord {
+pub(crate) impl Record for Header as HeaderLayout {
     ghost width = { 16 };
 
     ghost bytes = { headerBytes };
@@ -108,7 +108,7 @@ pub impl Record for Header as HeaderRecord {
     }
 }
 
-pub impl Record for Pair as PairRecord {
+pub(crate) impl Record for Pair as PairLayout {
     ghost width = { 4 };
 
     ghost bytes = { pairBytes };
@@ -138,7 +138,7 @@ pub struct LineRecord {
     pub length: u32,
 }
 
-pub impl Record for LineRecord as LineRecordRecord {
+pub(crate) impl Record for LineRecord as LineLayout {
     ghost width = { 8 };
 
     ghost bytes = { lineBytes };

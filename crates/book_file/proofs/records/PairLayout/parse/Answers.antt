@@ -6,7 +6,7 @@ use borrow.Author.Needs.{needs}
 use Prim.Native.Nat.{_≤_, _-_}
 use Rattle.std.proofs.shelf.Lists.{take-rest}
 use Rattle.book_file.proofs.Numbers.{two-at}
-use Rattle.book_file.proofs.records.PairRecord.parse.Needs as need
+use Rattle.book_file.proofs.records.PairLayout.parse.Needs as need
 
 pub returns : need.returns
 returns c =

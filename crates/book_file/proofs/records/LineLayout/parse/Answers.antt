@@ -5,7 +5,7 @@ use lib.ListN.{length}
 use borrow.Author.Needs.{needs}
 use Rattle.std.proofs.shelf.Lists.{take-rest}
 use Rattle.book_file.proofs.Numbers.{two-at, four-at}
-use Rattle.book_file.proofs.records.LineRecordRecord.parse.Needs as need
+use Rattle.book_file.proofs.records.LineLayout.parse.Needs as need
 
 pub returns : need.returns
 returns c =

@@ -5,7 +5,7 @@ use lib.ListN.{length}
 use borrow.Author.Needs.{needs}
 use Rattle.std.proofs.shelf.Lists.{take-rest}
 use Rattle.book_file.proofs.Numbers.{two-at, four-at}
-use Rattle.book_file.proofs.records.HeaderRecord.parse.Needs as need
+use Rattle.book_file.proofs.records.HeaderLayout.parse.Needs as need
 
 pub returns : need.returns
 returns c =

@@ -1,6 +1,6 @@
 use native.Mathlib.Omega.{arith}
 use Rattle.grammar.proofs.Writing.{then-written}
-use Rattle.book_file.proofs.records.PairRecord.write.Needs as need
+use Rattle.book_file.proofs.records.PairLayout.write.Needs as need
 
 pub returns : need.returns
 returns c =
