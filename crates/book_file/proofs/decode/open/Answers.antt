@@ -1,4 +1,5 @@
 use mathlib.Core.Path.{_∙_}
+use native.Mathlib.Omega.{arith}
 use borrow.Author.Needs.{needs}
 use Rattle.std.proofs.shelf.Results.{err-from-errBy}
 use Rattle.book_file.proofs.Files.{header-faults, opened, too-short}
@@ -15,4 +16,4 @@ returns-in-Break-check c =
 pub returns : need.returns
 returns c =
     let cut = c .split-at .ensures .places .0 in
-    opened (c .args .bytes .now) (c .in-Some .header) (c .in-Some .rest .now) _ _ (c .in-Some .ensures tt) (c .in-Continue-check .ensures tt) cut (c .split-at .ensures .front-len)
+    opened (c .args .bytes .now) (c .in-Some .header) (c .in-Some .rest .now) _ _ (c .in-Some .ensures tt) (c .in-Continue-check .ensures tt) cut (omega (arith, c .split-at .ensures .front-len))

@@ -12,4 +12,5 @@ returns c =
     let two-fields = then-written _ _ _ (omega arith) (omega arith) (size .after) (pairs .after) in
     let three-fields = then-written _ _ _ (omega arith) (omega arith) two-fields (lines .after) in
     let four-fields = then-written _ _ _ (omega arith) (omega arith) three-fields (pair-table .after) in
-    record { next = omega arith; after = then-written _ _ _ (omega arith) (omega arith) four-fields (line-table .after) }
+    let five-fields = then-written _ _ _ (omega arith) (omega arith) four-fields (line-table .after) in
+    record { next = omega arith; after = cc }

@@ -8,4 +8,5 @@ returns c =
     let strand = c .write-two-place-2 .ensures in
     let tape = c .write-four .ensures in
     let front = then-written _ _ _ (omega arith) (omega arith) (number .after) (strand .after) in
-    record { next = omega arith; after = then-written _ _ _ (omega arith) (omega arith) front (tape .after) }
+    let all = then-written _ _ _ (omega arith) (omega arith) front (tape .after) in
+    record { next = omega arith; after = cc }

@@ -6,4 +6,5 @@ pub returns : need.returns
 returns c =
     let left = c .write-two-place .ensures in
     let right = c .write-two .ensures in
-    record { next = omega arith; after = then-written _ _ _ (omega arith) (omega arith) (left .after) (right .after) }
+    let both = then-written _ _ _ (omega arith) (omega arith) (left .after) (right .after) in
+    record { next = omega arith; after = cc }
