@@ -3,7 +3,7 @@ use mathlib.Core.Path.{_≡_, refl, sym, ap, subst, _∙_}
 use mathlib.Core.Bool.{true, false, not}
 use mathlib.Core.List.{List, [], _∷_, _++_}
 use mathlib.Core.Logic.{⊎-elim}
-use Prim.Native.Nat.{ℕ, _+_, _*_, _/_, _%_, _<_, _≤_}
+use Prim.Native.Nat.{ℕ, zero, suc, _+_, _*_, _/_, _%_, _<_, _≤_}
 use native.Mathlib.Omega.{arith}
 use lib.Dec.{eqb, ltb}
 use lib.ListN.{length, getD, take, length-append}
@@ -193,27 +193,18 @@ within-limits ps ls e =
 long-alike : (h : Header) (m n : ℕ) → maxFile < m → maxFile < n → firstOf (headerFaults h m) ≡ firstOf (headerFaults h n)
 long-alike h m n a b = grind (arith, tells)
 
--- the header's bytes are among the first k
-same-header-in : (k : ℕ) (bytes : List ℕ) → 16 ≤ k → headerIn (take k bytes) ≡ headerIn bytes
-same-header-in k bytes h =
-    let at : (i : ℕ) → i < 16 → getD (take k bytes) i 0 ≡ getD bytes i 0 = λ i l. getD-take k bytes i 0 (omega arith) in
-    let b0 = at 0 (omega arith) in
-    let b1 = at 1 (omega arith) in
-    let b2 = at 2 (omega arith) in
-    let b3 = at 3 (omega arith) in
-    let b4 = at 4 (omega arith) in
-    let b5 = at 5 (omega arith) in
-    let b6 = at 6 (omega arith) in
-    let b7 = at 7 (omega arith) in
-    let b8 = at 8 (omega arith) in
-    let b9 = at 9 (omega arith) in
-    let b10 = at 10 (omega arith) in
-    let b11 = at 11 (omega arith) in
-    let b12 = at 12 (omega arith) in
-    let b13 = at 13 (omega arith) in
-    let b14 = at 14 (omega arith) in
-    let b15 = at 15 (omega arith) in
-    same-header (headerIn (take k bytes)) (headerIn bytes) (cc) (cc) (cc) (cc) (cc)
+-- a field within the first n bytes
+field-take : (w k n : ℕ) (bytes : List ℕ) → k + w ≤ n → field w k (take n bytes) ≡ field w k bytes
+field-take zero k n bytes h = refl
+field-take (suc w) k n bytes h =
+    let first = getD-take n bytes k 0 (omega arith) in
+    let rest = field-take w (k + 1) n bytes (omega arith) in cc
+
+same-header-in : (n : ℕ) (bytes : List ℕ) → 16 ≤ n → headerIn (take n bytes) ≡ headerIn bytes
+same-header-in n bytes h =
+    same-header (headerIn (take n bytes)) (headerIn bytes)
+    (field-take 4 0 n bytes (omega arith)) (field-take 2 4 n bytes (omega arith)) (field-take 2 6 n bytes (omega arith))
+    (field-take 4 8 n bytes (omega arith)) (field-take 4 12 n bytes (omega arith))
 
 pub long-files-read-alike : LongFilesReadAlike
 unfolding layoutFault

@@ -13,5 +13,5 @@ returns c =
     record {
       accepted = opened .accepted;
       spelled = spelled (c .args .bytes .now) (t .«pair_count») (t .«line_count») (t .pairs .now) (t .lines .now) opened
-      (vec-items (c .in-Continue-pairs .pairs)) (ps .0) (cc) (ps .2) (vec-items (c .in-Continue-lines .lines)) (ls .0) (cc) (ls .2);
+          (vec-items (c .in-Continue-pairs .pairs)) (ps .0) (cc) (ps .2) (vec-items (c .in-Continue-lines .lines)) (ls .0) (cc) (ls .2);
     }

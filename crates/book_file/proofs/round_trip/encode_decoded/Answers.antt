@@ -1,3 +1,4 @@
+use native.Mathlib.Omega.{arith}
 use Rattle.std.proofs.shelf.Results.{err-from-errBy}
 use Rattle.book_file.proofs.RoundTrips.{not-decoded, not-encoded, encoded-back, spelled-as}
 use Rattle.book_file.proofs.round_trip.encode_decoded.Needs as need
@@ -20,4 +21,5 @@ returns c =
     let bytes = c .args .bytes .now in
     let decoded = c .in-Continue-content .ensures tt in
     let spelled = spelled-as bytes (c .in-Continue-content .content) (c .as-slice .result .now) (c .as-slice-2 .result .now) (c .as-slice .ensures .value) (c .as-slice-2 .ensures .value) decoded in
-    encoded-back bytes (c .args .buffer .now) _ _ (decoded .accepted) spelled (c .encode .last .buffer) _ (c .in-Continue-encode .ensures tt)
+    let same = encoded-back bytes (c .args .buffer .now) _ _ (decoded .accepted) spelled (c .encode .last .buffer) _ (c .in-Continue-encode .ensures tt) in
+    record { accepted = same .accepted; answer = omega (arith, same .answer); file = same .file }
