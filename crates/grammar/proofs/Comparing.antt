@@ -1,12 +1,13 @@
 -- Laws of the comparison and of the orders.
-use mathlib.Core.Path.{_≡_, refl, ap, _∙_}
+use mathlib.Core.Path.{_≡_, refl, sym, ap, _∙_}
 use mathlib.Core.Bool.{Bool, true, false, not, cond}
 use mathlib.Core.List.{List, [], _∷_}
 use Prim.Native.Nat.{ℕ}
 use native.Mathlib.Omega.{arith}
 use lib.Dec.{eqb, ltb}
+use Rattle.std.proofs.shelf.Tests.{cond-true, cond-false, eq-eqb, ne-eqb}
 use Rattle.std.proofs.shelf.Ways.{tells}
-use Rattle.grammar.specs.Laws.{OrdersAreTotal}
+use Rattle.grammar.specs.Laws.{FirstDifferenceDecides, BeginningComesFirst, EqualsStandByNumber, OrdersAreTotal}
 use Rattle.grammar.specs.Orders.{comes, ahead, foreKey, backKey, StrictTotal}
 
 pub comes-self : (t : Bool) (xs : List ℕ) → comes t xs xs ≡ t
@@ -38,3 +39,14 @@ ahead-total key = record {
 
 pub orders-are-total : OrdersAreTotal
 orders-are-total pairs = (ahead-total (foreKey pairs), ahead-total (backKey pairs))
+
+pub first-difference-decides : FirstDifferenceDecides
+first-difference-decides t [] xs ys x y n = cond-false (eqb x y) (comes t xs ys) (ltb x y) (ne-eqb x y n)
+first-difference-decides t (c ∷ common) xs ys x y n = cond-true (eqb c c) _ (ltb c c) (eq-eqb c c refl) ∙ first-difference-decides t common xs ys x y n
+
+pub beginning-comes-first : BeginningComesFirst
+beginning-comes-first t [] ys y = refl
+beginning-comes-first t (c ∷ common) ys y = cond-true (eqb c c) _ (ltb c c) (eq-eqb c c refl) ∙ beginning-comes-first t common ys y
+
+pub equals-stand-by-number : EqualsStandByNumber
+equals-stand-by-number key a b e = ap (comes (ltb a b) (key a)) (sym e) ∙ comes-self (ltb a b) (key a)

@@ -1,10 +1,11 @@
 -- What holds of tapes, orders and places, whatever was joined. Each law is carried by a function of src/laws.rt.
 use mathlib.Core.Path.{_≡_}
-use mathlib.Core.Bool.{true}
+use mathlib.Core.Bool.{Bool, true}
 use mathlib.Core.List.{List, [], _∷_, _++_}
 use Prim.Native.Nat.{ℕ, _+_, _<_, _≤_}
+use lib.Dec.{ltb}
 use lib.ListN.{length, getD}
-use Rattle.grammar.specs.Orders.{ahead, foreKey, backKey, StrictTotal}
+use Rattle.grammar.specs.Orders.{comes, ahead, foreKey, backKey, StrictTotal}
 use Rattle.grammar.specs.Places.{places, AllPlaces}
 use Rattle.grammar.specs.Tapes.{tape, tapes, strands, wellJoined}
 
@@ -21,6 +22,18 @@ PairTapes =
 -- a join leaves every older tape as it was
 abbrev pub OlderTapesStay : Type 0
 OlderTapesStay = (pairs more : List (ℕ × ℕ)) (strand : ℕ) → strand < strands pairs → tape (pairs ++ more) strand ≡ tape pairs strand
+
+-- the first difference decides, by the bytes as numbers
+abbrev pub FirstDifferenceDecides : Type 0
+FirstDifferenceDecides = (tie : Bool) (common xs ys : List ℕ) (x y : ℕ) → (x ≡ y → ⊥) → comes tie (common ++ x ∷ xs) (common ++ y ∷ ys) ≡ ltb x y
+
+-- a proper beginning comes before the longer tape
+abbrev pub BeginningComesFirst : Type 0
+BeginningComesFirst = (tie : Bool) (common ys : List ℕ) (y : ℕ) → comes tie common (common ++ y ∷ ys) ≡ true
+
+-- strands with equal keys stand by number
+abbrev pub EqualsStandByNumber : Type 0
+EqualsStandByNumber = (key : ℕ → List ℕ) (a b : ℕ) → key a ≡ key b → ahead key a b ≡ ltb a b
 
 -- each order is strict and total
 abbrev pub OrdersAreTotal : Type 0
