@@ -18,67 +18,27 @@ use std::alloc::Global;
 use std::test::*;
 
 // Three pairs, AB, ABAB and ABABA; line 7 is the last of them, strand 258, of 5 bytes.
-const SAMPLE: [u8; 36] = [
-    0x24,
-    0,
-    0,
-    0,
-    3,
-    0,
-    1,
-    0,
-    0x10,
-    0,
-    0,
-    0,
-    0x1C,
-    0,
-    0,
-    0,
-    0x41,
-    0,
-    0x42,
-    0,
-    0,
-    1,
-    0,
-    1,
-    1,
-    1,
-    0x41,
-    0,
-    7,
-    0,
-    2,
-    1,
-    5,
-    0,
-    0,
-    0,
-];
+const SAMPLE: &[u8; 36] =
+    b"\x24\0\0\0\x03\0\x01\0\x10\0\0\0\x1C\0\0\0\x41\0\x42\0\0\x01\0\x01\x01\x01\x41\0\x07\0\x02\x01\x05\0\0\0";
 
 const WHOLE: &str = "pairs 3\nlines 1\nline 7 strand 258 length 5\n";
-
-const PAIRS: [Pair; 3] = [
-    Pair {
-        left: Strand(65),
-        right: Strand(66),
-    },
-    Pair {
-        left: Strand(256),
-        right: Strand(256),
-    },
-    Pair {
-        left: Strand(257),
-        right: Strand(65),
-    },
-];
 
 const LINES: [LineRecord; 1] = [LineRecord {
     number: 7,
     strand: Strand(258),
     length: 5,
 }];
+
+const fn pair(left: u16, right: u16) -> Pair {
+    Pair {
+        left: Strand(left),
+        right: Strand(right),
+    }
+}
+
+fn sample_pairs() -> [Pair; 3] {
+    [pair(65, 66), pair(256, 256), pair(257, 65)]
+}
 
 fn tells(heap: Global, file: &[u8], expected: &str) -> Result<(), Fail> {
     let text = listing(heap, file)?;
@@ -88,11 +48,12 @@ fn tells(heap: Global, file: &[u8], expected: &str) -> Result<(), Fail> {
 #[test]
 fn every_cut_is_short_at_its_byte_count(rt: LibcRuntime) -> Result<(), Fail> {
     let heap = rt.alloc();
-    for cut in 0..36 {
+    let sample: &[u8] = SAMPLE;
+    for cut in 0..sample.len() {
         let expected = format!(heap, "no 2 16 {cut}\n")?;
-        tells(heap, &SAMPLE[0..cut], expected.as_str())?;
+        tells(heap, &sample[0..cut], expected.as_str())?;
     }
-    tells(heap, &SAMPLE, WHOLE)
+    tells(heap, sample, WHOLE)
 }
 
 // Bytes of the sample replaced, from an offset on, and what is told then.
@@ -104,86 +65,46 @@ struct Damage {
     told: &'static str,
 }
 
+const fn damaged(at: usize, low: u8, high: u8, told: &'static str) -> Damage {
+    Damage {
+        at,
+        low,
+        high,
+        told,
+    }
+}
+
 #[test]
 fn each_wrong_field_is_told_at_its_offset(rt: LibcRuntime) -> Result<(), Fail> {
     let heap = rt.alloc();
     let cases = [
-        Damage {
-            at: 4,
-            low: 0x01,
-            high: 0x07,
-            told: "no 2 17 4\n",
-        },
-        Damage {
-            at: 4,
-            low: 0x00,
-            high: 0x07,
-            told: "no 2 17 12\n",
-        },
-        Damage {
-            at: 6,
-            low: 0x01,
-            high: 0x04,
-            told: "no 2 17 6\n",
-        },
-        Damage {
-            at: 6,
-            low: 0x00,
-            high: 0x04,
-            told: "no 2 17 0\n",
-        },
-        Damage {
-            at: 8,
-            low: 0x14,
-            high: 0x00,
-            told: "no 2 17 8\n",
-        },
-        Damage {
-            at: 10,
-            low: 0x01,
-            high: 0x00,
-            told: "no 2 17 8\n",
-        },
-        Damage {
-            at: 12,
-            low: 0x1D,
-            high: 0x00,
-            told: "no 2 17 12\n",
-        },
-        Damage {
-            at: 14,
-            low: 0x00,
-            high: 0x01,
-            told: "no 2 17 12\n",
-        },
-        Damage {
-            at: 0,
-            low: 0x25,
-            high: 0x00,
-            told: "no 2 17 0\n",
-        },
-        Damage {
-            at: 2,
-            low: 0x00,
-            high: 0x80,
-            told: "no 2 17 0\n",
-        },
-        Damage {
-            at: 28,
-            low: 0xFF,
-            high: 0xFF,
-            told: "pairs 3\nlines 1\nline 65535 strand 258 length 5\n",
-        },
-        Damage {
-            at: 34,
-            low: 0xFF,
-            high: 0xFF,
-            told: "pairs 3\nlines 1\nline 7 strand 258 length 4294901765\n",
-        },
+        damaged(4, 0x01, 0x07, "no 2 17 4\n"),
+        damaged(4, 0x00, 0x07, "no 2 17 12\n"),
+        damaged(6, 0x01, 0x04, "no 2 17 6\n"),
+        damaged(6, 0x00, 0x04, "no 2 17 0\n"),
+        damaged(8, 0x14, 0x00, "no 2 17 8\n"),
+        damaged(10, 0x01, 0x00, "no 2 17 8\n"),
+        damaged(12, 0x1D, 0x00, "no 2 17 12\n"),
+        damaged(14, 0x00, 0x01, "no 2 17 12\n"),
+        damaged(0, 0x25, 0x00, "no 2 17 0\n"),
+        damaged(2, 0x00, 0x80, "no 2 17 0\n"),
+        damaged(
+            28,
+            0xFF,
+            0xFF,
+            "pairs 3\nlines 1\nline 65535 strand 258 length 5\n",
+        ),
+        damaged(
+            34,
+            0xFF,
+            0xFF,
+            "pairs 3\nlines 1\nline 7 strand 258 length 4294901765\n",
+        ),
     ];
     for case in &cases {
-        let mut file = Vec::from_slice(heap, &SAMPLE)?;
-        check(case.at + 1 < file.len())?;
+        let mut file = Vec::from_slice(heap, SAMPLE)?;
+        check(file.len() == 36)?;
+        check(case.at < 35)?;
         file[case.at] = case.low;
         file[case.at + 1] = case.high;
         tells(heap, file.as_slice(), case.told)?;
@@ -194,7 +115,7 @@ fn each_wrong_field_is_told_at_its_offset(rt: LibcRuntime) -> Result<(), Fail> {
 #[test]
 fn one_byte_more_is_told_at_the_size(rt: LibcRuntime) -> Result<(), Fail> {
     let heap = rt.alloc();
-    let mut file = Vec::from_slice(heap, &SAMPLE)?;
+    let mut file = Vec::from_slice(heap, SAMPLE)?;
     file.push(0)?;
     tells(heap, file.as_slice(), "no 2 17 36\n")
 }
@@ -202,35 +123,37 @@ fn one_byte_more_is_told_at_the_size(rt: LibcRuntime) -> Result<(), Fail> {
 #[test]
 fn the_sample_is_spelled_by_its_content(rt: LibcRuntime) -> Result<(), Fail> {
     let heap = rt.alloc();
-    let Ok(content) = decode(heap, &SAMPLE) else {
+    let Ok(content) = decode(heap, SAMPLE) else {
         return Err(Fail::new("refused"));
     };
-    check_eq(content.pairs.as_slice(), PAIRS.as_slice())?;
+    check_eq(content.pairs.as_slice(), sample_pairs().as_slice())?;
     check_eq(content.lines.as_slice(), LINES.as_slice())
 }
 
 // The file stands at the buffer's beginning and the rest stays; a buffer one byte too small stays whole.
 #[test]
 fn encoding_writes_the_file_and_nothing_else(rt: LibcRuntime) -> Result<(), Fail> {
+    let pairs = sample_pairs();
     let mut buffer = [0x2Eu8; 40];
-    check_eq(encode(&PAIRS, &LINES, &mut buffer), Ok(36))?;
+    check_eq(encode(&pairs, &LINES, &mut buffer), Ok(36))?;
     check_eq(&buffer[0..36], SAMPLE.as_slice())?;
     check_eq(&buffer[36..40], [0x2Eu8; 4].as_slice())?;
     let mut small = [0x2Eu8; 35];
-    check_eq(encode(&PAIRS, &LINES, &mut small), Err(Refusal::TooSmall))?;
+    check_eq(encode(&pairs, &LINES, &mut small), Err(Refusal::TooSmall))?;
     check_eq(small.as_slice(), [0x2Eu8; 35].as_slice())
 }
 
 #[test]
 fn there_and_back(rt: LibcRuntime) -> Result<(), Fail> {
     let heap = rt.alloc();
+    let pairs = sample_pairs();
     let mut buffer = [0x2Eu8; 36];
-    let Ok(content) = decode_encoded(heap, &PAIRS, &LINES, &mut buffer) else {
+    let Ok(content) = decode_encoded(heap, &pairs, &LINES, &mut buffer) else {
         return Err(Fail::new("not decoded"));
     };
-    check_eq(content.pairs.as_slice(), PAIRS.as_slice())?;
+    check_eq(content.pairs.as_slice(), pairs.as_slice())?;
     let mut copy = [0x2Eu8; 36];
-    let Ok(size) = encode_decoded(heap, &SAMPLE, &mut copy) else {
+    let Ok(size) = encode_decoded(heap, SAMPLE, &mut copy) else {
         return Err(Fail::new("not encoded"));
     };
     check_eq(size, 36)?;
