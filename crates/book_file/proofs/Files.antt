@@ -178,16 +178,17 @@ pub too-short : (bytes : List ℕ) → length bytes < 16 → layoutFault bytes �
 unfolding layoutFault
 too-short bytes h = let short = lt-ltb (length bytes) 16 h in cc
 
+-- a header with no fault is within the limits
+pub limits : (h : Header) (n : ℕ) → firstOf (headerFaults h n) ≡ None → (h .pairs ≤ maxPairs) × (h .lines ≤ maxLines)
+limits h n none = (grind (arith, tells), grind (arith, tells))
+
 -- a file that is accepted is within the limits
 pub within-limits : (ps : List Pair) (ls : List LineRecord) → layoutFault (fileOf ps ls) ≡ None → (length ps ≤ maxPairs) × (length ls ≤ maxLines)
 unfolding fileOf
 within-limits ps ls e =
     let h = headerOf (length ps) (length ls) in
     let none : firstOf (headerFaults h (length (fileOf ps ls))) ≡ None = sym (header-faults (fileOf ps ls) h (joined pairBytes ps ++ joined lineBytes ls) refl) ∙ e in
-    limits (length ps) (length ls) (length (fileOf ps ls)) none
-  where
-    limits : (p q n : ℕ) → firstOf (headerFaults (headerOf p q) n) ≡ None → (p ≤ maxPairs) × (q ≤ maxLines)
-    limits p q n none = (grind (arith, tells), grind (arith, tells))
+    limits h (length (fileOf ps ls)) none
 
 -- beyond the largest file the byte count does not matter
 long-alike : (h : Header) (m n : ℕ) → maxFile < m → maxFile < n → firstOf (headerFaults h m) ≡ firstOf (headerFaults h n)

@@ -1,3 +1,4 @@
+pub mod Accepted
 pub mod Files
 pub mod Numbers
 pub mod RoundTrips

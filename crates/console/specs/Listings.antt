@@ -1,12 +1,13 @@
 -- What is printed of a book file.
 use mathlib.Core.Path.{_≡_}
 use mathlib.Core.List.{List, _++_}
-use Prim.Native.Nat.{ℕ}
+use Prim.Native.Nat.{ℕ, _+_}
 use lib.Chars.{codes}
-use lib.ListN.{length}
+use lib.ListN.{length, take}
 use Rattle.std.specs.Joined.{joined}
 use Rattle.std.specs.Options.{Cases}
 use Rattle.std.specs.Written.{decimal}
+use Rattle.grammar.specs.Limits.{maxFile}
 use Rattle.grammar.specs.Refusals.{numberOf, layerOf, layerNumber, placeOf}
 use Rattle.grammar.specs.declared.refusals.Refusal.{Refusal}
 use Rattle.grammar.specs.declared.strands.Pair.{Pair}
@@ -29,8 +30,14 @@ countRows pairs lines = codes "pairs " ++ (decimal pairs ++ (codes "\nlines " ++
 abbrev pub contentText : List Pair → List LineRecord → List ℕ
 contentText pairs lines = countRows (length pairs) (length lines) ++ joined lineRow lines
 
--- the text for the bytes of a file: the refusal that is due, or the content whose file they are
+-- the text is that of the content whose file the bytes are
+abbrev pub Told : List ℕ → List ℕ → Type 0
+Told file text = (pairs : List Pair) × (lines : List LineRecord) × (fileOf pairs lines ≡ file) × (text ≡ contentText pairs lines)
+
+-- the text for the bytes of a file: the refusal that is due, or what the file holds
 abbrev pub Listing : List ℕ → List ℕ → Type 0
-Listing file text = Cases (layoutFault file)
-    ((pairs : List Pair) × (lines : List LineRecord) × (fileOf pairs lines ≡ file) × (text ≡ contentText pairs lines))
-    (λ refusal. text ≡ refusalRow refusal)
+Listing file text = Cases (layoutFault file) (Told file text) (λ refusal. text ≡ refusalRow refusal)
+
+-- whoever reads one byte more than the largest file has, and no further, prints the text for the whole
+abbrev pub LongFilesListAlike : Type 0
+LongFilesListAlike = (file text : List ℕ) → Listing (take (maxFile + 1) file) text → Listing file text

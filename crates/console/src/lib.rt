@@ -1,2 +1,3 @@
 // What the surveyor sees, as functions from bytes to text.
+pub mod laws;
 pub mod listing;

@@ -189,5 +189,7 @@ fn the_largest_file_is_accepted(rt: LibcRuntime) -> Result<(), Fail> {
         return Err(Fail::new("refused"));
     };
     check_eq(content.pairs.as_slice(), most_pairs)?;
-    check_eq(content.lines.as_slice(), most_lines)
+    check_eq(content.lines.as_slice(), most_lines)?;
+    let text = listing(heap, &buffer)?;
+    check_eq(text.len(), 22 + 1024 * 29)
 }

@@ -5,19 +5,20 @@ use mathlib.Core.List.{List, [], _∷_, _++_}
 use Prim.Native.Nat.{ℕ, _+_, _<_, _≤_}
 use lib.Dec.{ltb}
 use lib.ListN.{length, getD}
+use Rattle.grammar.specs.Limits.{byteStrands}
 use Rattle.grammar.specs.Orders.{comes, ahead, foreKey, backKey, StrictTotal}
 use Rattle.grammar.specs.Places.{places, AllPlaces}
 use Rattle.grammar.specs.Tapes.{tape, tapes, strands, wellJoined}
 
 -- the tape of byte strand c is byte c
 abbrev pub ByteTapes : Type 0
-ByteTapes = (pairs : List (ℕ × ℕ)) (c : ℕ) → c < 256 → tape pairs c ≡ c ∷ []
+ByteTapes = (pairs : List (ℕ × ℕ)) (c : ℕ) → c < byteStrands → tape pairs c ≡ c ∷ []
 
 -- a pair's tape is its left part's followed by its right part's
 abbrev pub PairTapes : Type 0
 PairTapes =
     (pairs : List (ℕ × ℕ)) (k : ℕ) → wellJoined pairs ≡ true → k < length pairs
-    → tape pairs (256 + k) ≡ tape pairs (getD pairs k (0, 0) .0) ++ tape pairs (getD pairs k (0, 0) .1)
+    → tape pairs (byteStrands + k) ≡ tape pairs (getD pairs k (0, 0) .0) ++ tape pairs (getD pairs k (0, 0) .1)
 
 -- a join leaves every older tape as it was
 abbrev pub OlderTapesStay : Type 0

@@ -6,10 +6,11 @@ use Prim.Native.Nat.{ℕ, _+_}
 use lib.Dec.{ltb}
 use lib.ListN.{length, getD}
 use Rattle.std.specs.Iters.{counting}
+use Rattle.grammar.specs.Limits.{byteStrands}
 
 -- the tape of byte strand c is byte c
 unfoldable pub byteTapes : List (List ℕ)
-byteTapes = map (λ c. c ∷ []) (counting 0 256)
+byteTapes = map (λ c. c ∷ []) (counting 0 byteStrands)
 
 -- one pair more: its tape is its left part's followed by its right part's
 abbrev pub withPair : List (List ℕ) → ℕ × ℕ → List (List ℕ)
@@ -28,7 +29,7 @@ tape pairs strand = getD (tapes pairs) strand []
 
 -- how many strands there are
 abbrev pub strands : List (ℕ × ℕ) → ℕ
-strands pairs = 256 + length pairs
+strands pairs = byteStrands + length pairs
 
 -- from strand n on, both parts of a pair have lower numbers than the pair
 abbrev pub olderFrom : ℕ → List (ℕ × ℕ) → Bool
@@ -37,4 +38,4 @@ olderFrom n (pair ∷ pairs) = ltb (pair .0) n && (ltb (pair .1) n && olderFrom 
 
 -- each pair joins strands that were there before it
 unfoldable pub wellJoined : List (ℕ × ℕ) → Bool
-wellJoined pairs = olderFrom 256 pairs
+wellJoined pairs = olderFrom byteStrands pairs

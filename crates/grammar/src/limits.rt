@@ -1,4 +1,7 @@
 // The limits of a book, of a pattern and of a book file.
+ghost use mathlib.Core.Path.{_≡_};
+ghost use Prim.Native.Nat.{_+_};
+ghost use Rattle.grammar.specs.Limits.{allLimits, byteStrands, maxPairs, maxStrands};
 
 // Strands 0 to 255 stand for one byte each.
 pub const BYTE_STRANDS: u16 = 256;
@@ -20,3 +23,31 @@ pub const MAX_LINES: u16 = 1024;
 
 // No book file has more bytes: the header, and as many pairs and lines as there can be.
 pub const MAX_FILE: usize = 15376;
+
+// All limits at once.
+#[derive(Clone, Copy, PartialEq, Eq, Debug)]
+pub struct Limits {
+    pub byte_strands: u16,
+    pub strands: u16,
+    pub pairs: u16,
+    pub tape: u32,
+    pub pattern: usize,
+    pub lines: u16,
+    pub file: usize,
+}
+
+// The constants, held to the definitions that contracts cite.
+pub fn all_limits() -> Limits
+    ensures values { λ r. ⌜ r ≡ allLimits ⌝ }
+    ensures agree { λ _. ⌜ maxStrands ≡ byteStrands + maxPairs ⌝ }
+{
+    Limits {
+        byte_strands: BYTE_STRANDS,
+        strands: MAX_STRANDS,
+        pairs: MAX_PAIRS,
+        tape: MAX_TAPE,
+        pattern: MAX_PATTERN,
+        lines: MAX_LINES,
+        file: MAX_FILE,
+    }
+}

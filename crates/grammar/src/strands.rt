@@ -1,5 +1,5 @@
-// Strands, their ranks and pairs of them. Strand, fore rank and back rank are types of their own that never turn
-// into each other: only a book's order tables lead from a rank to its strand and back.
+// Strands, their ranks and pairs of them. Strand, fore rank and back rank are types of their own, with no conversion
+// between them: a book goes from one to another only by its order tables.
 
 // A strand by its number: 0 to 255 are the byte strands, and pairs go from 256 on in the order of joining.
 #[derive(Clone, Copy, PartialEq, Eq, PartialOrd, Ord, Debug)]
