@@ -14,7 +14,7 @@ use Rattle.grammar.specs.declared.strands.Pair.{Pair}
 use Rattle.book_file.specs.declared.records.Header.{Header}
 use Rattle.book_file.specs.declared.records.LineRecord.{LineRecord}
 
--- a number of two bytes, and one of four: low byte first
+-- a number of two bytes, and one of four: low byte first. The top byte is all that is left, a byte where the number fits
 abbrev pub two : ℕ → List ℕ
 two n = n % 256 ∷ n / 256 ∷ []
 
@@ -54,7 +54,7 @@ field (suc w) k bytes = getD bytes k 0 + 256 * field w (k + 1) bytes
 abbrev pub headerIn : List ℕ → Header
 headerIn bytes = record { size = field 4 0 bytes; pairs = field 2 4 bytes; lines = field 2 6 bytes; «pair_table» = field 4 8 bytes; «line_table» = field 4 12 bytes }
 
--- what can be wrong with a header before n bytes in all, in the order of the checks
+-- what can be wrong with a file of n bytes by its header, in the order of the checks
 abbrev pub headerFaults : Header → ℕ → List (Bool × Refusal)
 headerFaults h n =
     (ltb maxPairs (h .pairs), BadHeader 4)

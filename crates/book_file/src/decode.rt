@@ -64,7 +64,7 @@ pub impl From<AllocError> for Fault as FaultFromAlloc {
     }
 }
 
-// The checks on a header, in their order, before a file of so many bytes in all.
+// The checks on the header of a file of so many bytes, in their order.
 fn check(header: &Header, len: usize) -> Result<(), Refusal>
     ensures { λ r. ⌜ Cases r (λ _. firstOf (headerFaults (now (header .entry)) len) ≡ None) (λ e. firstOf (headerFaults (now (header .entry)) len) ≡ Some e) ⌝ }
 {

@@ -8,10 +8,8 @@ returns c =
     let opened = c .in-Continue-tables .ensures tt in
     let ps = c .in-Continue-pairs .ensures tt in
     let ls = c .in-Continue-lines .ensures tt in
-    let pair-table = ps .1 in
-    let line-table = ls .1 in
     record {
       accepted = opened .accepted;
       spelled = spelled (c .args .bytes .now) (t .«pair_count») (t .«line_count») (t .pairs .now) (t .lines .now) opened
-          (vec-items (c .in-Continue-pairs .pairs)) (ps .0) (cc) (ps .2) (vec-items (c .in-Continue-lines .lines)) (ls .0) (cc) (ls .2);
+          (vec-items (c .in-Continue-pairs .pairs)) (ps .0) (ps .1) (ps .2) (vec-items (c .in-Continue-lines .lines)) (ls .0) (ls .1) (ls .2);
     }
