@@ -13,14 +13,10 @@ use Rattle.std.specs.declared.option.Option.{Option}
 use Rattle.std.specs.declared.option.Option.the-variants.{Some, None}
 use Rattle.std.proofs.shelf.Lists.{append-nil, nil-from-length, getD-drop, getD-take, getD-past, length-take-le}
 use Rattle.std.proofs.shelf.Tests.{cases-lt, ltb-false}
-use Rattle.std.proofs.shelf.Ways.{tells}
-use Rattle.grammar.specs.Limits.{maxPairs, maxLines, maxFile}
 use Rattle.grammar.specs.Refusals.{firstOf}
 use Rattle.grammar.specs.declared.strands.Pair.{Pair}
-use Rattle.book_file.specs.Contents.{Opened}
 use Rattle.book_file.specs.Laws.{AcceptedBytesAreFiles, LargestFile}
-use Rattle.book_file.specs.Layout.{two, four, pairBytes, lineBytes, headerBytes, sizeOf, fileOf, field, headerIn, headerFaults, layoutFault}
-use Rattle.book_file.specs.declared.records.Header.{Header}
+use Rattle.book_file.specs.Layout.{two, four, pairBytes, lineBytes, headerBytes, field, headerIn, headerFaults, layoutFault}
 use Rattle.book_file.specs.declared.records.LineRecord.{LineRecord}
 use Rattle.book_file.proofs.Files.{faultless, limits, opened, spelled}
 use Rattle.book_file.proofs.Numbers.{two-at, four-at}

@@ -2,13 +2,12 @@
 use mathlib.Core.Path.{_≡_, refl, sym, ap, subst, _∙_}
 use mathlib.Core.Bool.{Bool, true, false}
 use mathlib.Core.List.{List, [], _∷_, _++_}
-use Prim.Native.Nat.{ℕ, _≤_}
+use Prim.Native.Nat.{ℕ}
 use native.Mathlib.Omega.{arith}
 use lib.Dec.{ltb}
 use lib.ListN.{length, take}
 use Rattle.std.specs.Of.Vec.{vec-items}
 use Rattle.std.specs.Results.{Cases}
-use Rattle.std.specs.declared.option.Option.{Option}
 use Rattle.std.specs.declared.option.Option.the-variants.{Some, None}
 use Rattle.std.specs.declared.result.Result.{Result}
 use Rattle.std.proofs.shelf.Results.{cases-weaker}
@@ -21,7 +20,7 @@ use Rattle.grammar.specs.declared.refusals.Refusal.{Refusal}
 use Rattle.grammar.specs.declared.refusals.Refusal.the-variants.{TooSmall}
 use Rattle.grammar.specs.declared.strands.Pair.{Pair}
 use Rattle.grammar.proofs.Writing.{written-front}
-use Rattle.book_file.specs.Contents.{Decoded, Due, Encoded, NotEncoded, contentFile}
+use Rattle.book_file.specs.Contents.{Decoded, Due, Encoded, NotEncoded}
 use Rattle.book_file.specs.Layout.{fileOf, sizeOf, layoutFault, layoutFaults, encodeFault}
 use Rattle.book_file.specs.RoundTrips.{SameContent, NoContent, SameFile, NoFile, copyFault}
 use Rattle.book_file.specs.declared.decode.Content.{Content}

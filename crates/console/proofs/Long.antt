@@ -2,7 +2,7 @@
 use mathlib.Core.Path.{_≡_, refl, subst, _∙_}
 use mathlib.Core.List.{List}
 use mathlib.Core.Logic.{⊎-elim}
-use Prim.Native.Nat.{ℕ, _+_, _<_, _≤_}
+use Prim.Native.Nat.{ℕ, _+_}
 use native.Mathlib.Omega.{arith}
 use lib.ListN.{length, take}
 use Rattle.std.specs.Options.{Cases}
@@ -15,7 +15,7 @@ use Rattle.grammar.specs.declared.refusals.Refusal.{Refusal}
 use Rattle.book_file.specs.Layout.{layoutFault}
 use Rattle.book_file.proofs.Accepted.{largest-file}
 use Rattle.book_file.proofs.Files.{long-files-read-alike}
-use Rattle.console.specs.Listings.{Told, Listing, LongFilesListAlike, refusalRow}
+use Rattle.console.specs.Listings.{Told, LongFilesListAlike, refusalRow}
 
 -- a front that is accepted is the whole
 whole : (file : List ℕ) → layoutFault (take (maxFile + 1) file) ≡ None → take (maxFile + 1) file ≡ file

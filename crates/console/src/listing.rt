@@ -5,7 +5,7 @@ ghost use Rattle.std.specs.Joined.{joined};
 ghost use Rattle.std.specs.Of.String.{string-bytes};
 ghost use Rattle.std.specs.Of.Vec.{vec-items};
 ghost use Rattle.std.specs.Vec.{made};
-ghost use Rattle.console.specs.Listings.{Listing, contentText, countRows, lineRow, refusalRow};
+ghost use Rattle.console.specs.Listings.{Listing, contentText, lineRow, refusalRow};
 use book_file::decode::Content;
 use book_file::decode::Fault;
 use book_file::decode::decode;

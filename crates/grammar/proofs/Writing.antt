@@ -1,10 +1,10 @@
 -- What one write after another leaves in a buffer.
-use mathlib.Core.Path.{_≡_, refl, sym, ap, _∙_}
+use mathlib.Core.Path.{_≡_, sym, ap, _∙_}
 use mathlib.Core.List.{List, [], _++_, append-assoc}
 use Prim.Native.Nat.{ℕ, _+_, _≤_}
 use native.Mathlib.Omega.{arith}
 use borrow.Rule.Slice.PartMut.{putMid}
-use lib.ListN.{length, take, drop, length-append, length-drop, take-append-drop}
+use lib.ListN.{length, take, drop, length-append, take-append-drop}
 use Rattle.std.proofs.shelf.Lists.{take-at, drop-at, drop-drop, length-take-le}
 use Rattle.grammar.specs.Buffers.{written}
 
@@ -24,11 +24,6 @@ written-more xs at n ys zs h e =
     ∙ ap (λ l. front ++ (zs ++ l)) more
     ∙ append-assoc (take at xs) ys (zs ++ drop (at + length (ys ++ zs)) xs)
     ∙ ap (λ l. take at xs ++ l) (sym (append-assoc ys zs (drop (at + length (ys ++ zs)) xs)))
-
--- a write keeps the length
-pub length-written : (xs : List ℕ) (at : ℕ) (ys : List ℕ) → at + length ys ≤ length xs → length (written xs at ys) ≡ length xs
-unfolding written
-length-written xs at ys h = search (arith, length-append, length-take-le, length-drop)
 
 -- what a write to a part `buffer[at..at + k]` leaves
 pub written-part : (xs : List ℕ) (at k : ℕ) (ys zs : List ℕ) → ys ≡ zs → k ≡ length zs → putMid at k xs ys ≡ written xs at zs
