@@ -16,20 +16,16 @@ use Rattle.std.proofs.shelf.Tests.{cases-lt, ltb-false}
 use Rattle.grammar.specs.Refusals.{firstOf}
 use Rattle.grammar.specs.declared.strands.Pair.{Pair}
 use Rattle.book_file.specs.Laws.{AcceptedBytesAreFiles, LargestFile}
-use Rattle.book_file.specs.Layout.{two, four, pairBytes, lineBytes, headerBytes, field, headerIn, headerFaults, layoutFault}
+use Rattle.book_file.specs.Layout.{pairBytes, lineBytes, field, headerIn, headerFaults, layoutFault}
 use Rattle.book_file.specs.declared.records.LineRecord.{LineRecord}
 use Rattle.book_file.proofs.Files.{faultless, limits, opened, spelled}
-use Rattle.book_file.proofs.Numbers.{two-at, four-at}
-
-Bytes : List ℕ → Type 0
-Bytes bs = (i : ℕ) → getD bs i 0 < 256
+use Rattle.book_file.proofs.Numbers.{Bytes}
+use Rattle.book_file.proofs.Fronts.{pair-at, line-at, header-at}
 
 bytes-drop : (n : ℕ) (bs : List ℕ) → Bytes bs → Bytes (drop n bs)
-unfolding Bytes
 bytes-drop n bs b i = subst (λ x. x < 256) (sym (getD-drop n bs i 0)) (b (n + i))
 
 bytes-take : (n : ℕ) (bs : List ℕ) → n ≤ length bs → Bytes bs → Bytes (take n bs)
-unfolding Bytes
 bytes-take n bs h b i =
     ⊎-elim
     (λ l. subst (λ x. x < 256) (sym (getD-take n bs i 0 l)) (b i))
@@ -46,31 +42,10 @@ table-of f w read (suc n) bs b l =
     (x ∷ xs, ap (λ t. f x ++ t) rest ∙ sym cut)
 
 read-pair : (bs : List ℕ) → Bytes bs → 4 ≤ length bs → (x : Pair) × (bs ≡ pairBytes x ++ drop 4 bs)
-unfolding Bytes
-read-pair bs b h =
-    let left = two-at bs b 0 (field 2 0 bs) (omega arith) (omega arith) in
-    let right = two-at bs b 2 (field 2 2 bs) (omega arith) (omega arith) in
-    (record { left = record { 0 = field 2 0 bs }; right = record { 0 = field 2 2 bs } }, left ∙ ap (λ t. two (field 2 0 bs) ++ t) right)
+read-pair bs b h = let x : Pair = record { left = record { 0 = field 2 0 bs }; right = record { 0 = field 2 2 bs } } in (x, pair-at bs (drop 4 bs) b x h refl refl refl)
 
 read-line : (bs : List ℕ) → Bytes bs → 8 ≤ length bs → (x : LineRecord) × (bs ≡ lineBytes x ++ drop 8 bs)
-unfolding Bytes
-read-line bs b h =
-    let number = two-at bs b 0 (field 2 0 bs) (omega arith) (omega arith) in
-    let strand = two-at bs b 2 (field 2 2 bs) (omega arith) (omega arith) in
-    let tape = four-at bs b 4 (field 4 4 bs) (omega arith) (omega arith) in (
-      record { number = field 2 0 bs; strand = record { 0 = field 2 2 bs }; length = field 4 4 bs },
-      number ∙ ap (λ t. two (field 2 0 bs) ++ t) (strand ∙ ap (λ t. two (field 2 2 bs) ++ t) tape),
-    )
-
-read-header : (bs : List ℕ) → Bytes bs → 16 ≤ length bs → bs ≡ headerBytes (headerIn bs) ++ drop 16 bs
-unfolding Bytes
-read-header bs b h =
-    let size = four-at bs b 0 (field 4 0 bs) (omega arith) (omega arith) in
-    let pairs = two-at bs b 4 (field 2 4 bs) (omega arith) (omega arith) in
-    let lines = two-at bs b 6 (field 2 6 bs) (omega arith) (omega arith) in
-    let pair-table = four-at bs b 8 (field 4 8 bs) (omega arith) (omega arith) in
-    let line-table = four-at bs b 12 (field 4 12 bs) (omega arith) (omega arith) in
-    size ∙ ap (λ t. four (field 4 0 bs) ++ t) (pairs ∙ ap (λ t. two (field 2 4 bs) ++ t) (lines ∙ ap (λ t. two (field 2 6 bs) ++ t) (pair-table ∙ ap (λ t. four (field 4 8 bs) ++ t) line-table)))
+read-line bs b h = let x : LineRecord = record { number = field 2 0 bs; strand = record { 0 = field 2 2 bs }; length = field 4 4 bs } in (x, line-at bs (drop 8 bs) b x h refl refl refl refl)
 
 -- the first test of a decision list that answers nothing failed, and so did the others
 passed : {X : Type 0} (b : Bool) (x : X) (o : Option X) → cond b (Some x) o ≡ None → (b ≡ false) × (o ≡ None)
@@ -92,7 +67,6 @@ largest-file = (
 )
 
 pub accepted-bytes-are-files : AcceptedBytesAreFiles
-unfolding Bytes
 accepted-bytes-are-files bytes b e =
     let p = accepted-parts bytes e in
     let h = headerIn bytes in
@@ -103,7 +77,7 @@ accepted-bytes-are-files bytes b e =
     let inside : cut ≤ length rest = omega (arith, is .1, long) in
     let front = length-take-le cut rest inside in
     let back = length-drop cut rest in
-    let o = opened bytes h rest (take cut rest) (drop cut rest) (read-header bytes b (p .0)) (p .1) (sym (take-append-drop cut rest)) front in
+    let o = opened bytes h rest (take cut rest) (drop cut rest) (header-at bytes rest b h (p .0) refl refl refl refl refl refl) (p .1) (sym (take-append-drop cut rest)) front in
     let (pairs, pairTable) = table-of pairBytes 4 read-pair (h .pairs) (take cut rest) (bytes-take cut rest inside (bytes-drop 16 bytes b)) front in
     let (lines, lineTable) = table-of lineBytes 8 read-line (h .lines) (drop cut rest) (bytes-drop cut rest (bytes-drop 16 bytes b)) (o .lines) in
     (pairs, lines, spelled bytes (h .pairs) (h .lines) (take cut rest) (drop cut rest) o pairs [] (append-nil (joined pairBytes pairs) ∙ pairTable) (omega arith) lines [] (append-nil (joined lineBytes lines) ∙ lineTable) (omega arith))

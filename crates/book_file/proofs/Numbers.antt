@@ -5,7 +5,7 @@ use Prim.Native.Nat.{ℕ, _+_, _*_, _/_, _%_, _<_, _≤_}
 use native.Mathlib.Omega.{arith}
 use lib.ListN.{length, getD, drop}
 use Rattle.std.proofs.shelf.Lists.{drop-more}
-use Rattle.book_file.specs.Layout.{two, four}
+use Rattle.book_file.specs.Layout.{two, four, field}
 
 pub two-is : (a b n : ℕ) → a < 256 → n ≡ a + b * 256 → two n ≡ a ∷ b ∷ []
 two-is a b n h e =
@@ -17,22 +17,28 @@ four-is a b c d n h k l e =
     let low = two-is a b (n % 65536) h (omega arith) in
     let high = two-is c d (n / 65536) l (omega arith) in cc
 
--- the number at the place k, and the rest
-module _ (bs : List ℕ) (bytes : (i : ℕ) → getD bs i 0 < 256) where
-  pub two-at : (k n : ℕ) → k + 2 ≤ length bs → n ≡ getD bs k 0 + getD bs (k + 1) 0 * 256 → drop k bs ≡ two n ++ drop (k + 2) bs
+-- a list of bytes
+abbrev pub Bytes : List ℕ → Type 0
+Bytes bs = (i : ℕ) → getD bs i 0 < 256
+
+-- the number in a field, and the rest
+module _ (bs : List ℕ) (bytes : Bytes bs) where
+  pub two-at : (k n : ℕ) → k + 2 ≤ length bs → n ≡ field 2 k bs → drop k bs ≡ two n ++ drop (k + 2) bs
   two-at k n h e =
       let first = drop-more bs k 0 (omega arith) in
       let second = drop-more bs (k + 1) 0 (omega arith) in
       let z : k + 1 + 1 ≡ k + 2 = omega arith in
-      let t = two-is (getD bs k 0) (getD bs (k + 1) 0) n (bytes k) e in cc
+      let t = two-is (getD bs k 0) (getD bs (k + 1) 0) n (bytes k) (omega arith) in cc
 
-  pub four-at : (k n : ℕ) → k + 4 ≤ length bs → n ≡ getD bs k 0 + getD bs (k + 1) 0 * 256 + getD bs (k + 2) 0 * 65536 + getD bs (k + 3) 0 * 16777216 → drop k bs ≡ four n ++ drop (k + 4) bs
+  pub four-at : (k n : ℕ) → k + 4 ≤ length bs → n ≡ field 4 k bs → drop k bs ≡ four n ++ drop (k + 4) bs
   four-at k n h e =
-      let low = two-at k (n % 65536) (omega arith) (let a = bytes k in let b = bytes (k + 1) in omega arith) in
-      let z : k + 2 + 1 ≡ k + 3 = omega arith in
+      let a = bytes k in
+      let b = bytes (k + 1) in
+      let z : k + 1 + 1 ≡ k + 2 = omega arith in
+      let tail = ap (λ i. field 2 i bs) z in
+      let low = two-at k (n % 65536) (omega arith) (omega arith) in
       let y : k + 2 + 2 ≡ k + 4 = omega arith in
-      let b3 = ap (λ i. getD bs i 0) z in
-      let high = two-at (k + 2) (n / 65536) (omega arith) (let a = bytes k in let b = bytes (k + 1) in omega arith) in
+      let high = two-at (k + 2) (n / 65536) (omega arith) (omega arith) in
       let rest = ap (λ i. drop i bs) y in cc
 
 -- the bytes of a number that fits them

@@ -73,18 +73,22 @@ module _ (bytes before : List ℕ) where
   not-decoded (Refused r) due = (first-before (layoutFaults bytes) ((ltb (length before) (length bytes), TooSmall) ∷ []) r due, refl)
   not-decoded Memory due = (due, refl)
 
-  module _ (ps : List Pair) (ls : List LineRecord) (accepted : layoutFault bytes ≡ None) (spelled : fileOf ps ls ≡ bytes) where
+  -- a content that was decoded, with its pairs and lines as slices
+  module _ (content : Content) (d : Decoded bytes content) (ps : List Pair) (ls : List LineRecord) (p : ps ≡ vec-items (content .pairs)) (l : ls ≡ vec-items (content .lines)) where
+    spelled : fileOf ps ls ≡ bytes
+    spelled = ap (λ qs. fileOf qs ls) p ∙ ap (fileOf (vec-items (content .pairs))) l ∙ d .spelled
+
     long : sizeOf (length ps) (length ls) ≡ length bytes
     long = sym (length-file ps ls) ∙ ap length spelled
 
-    -- of a content that was decoded only the buffer's size can be wrong
+    -- only the buffer's size can be wrong
     same-fault : copyFault bytes (length before) ≡ encodeFault (length ps) (length ls) (length before)
     unfolding layoutFault copyFault
     same-fault =
-        let within = within-limits ps ls (ap layoutFault spelled ∙ accepted) in
+        let within = within-limits ps ls (ap layoutFault spelled ∙ d .accepted) in
         let pairs = le-ltb maxPairs (length ps) (within .0) in
         let lines = le-ltb maxLines (length ls) (within .1) in
-        let copy = first-behind (layoutFaults bytes) ((ltb (length before) (length bytes), TooSmall) ∷ []) accepted in
+        let copy = first-behind (layoutFaults bytes) ((ltb (length before) (length bytes), TooSmall) ∷ []) (d .accepted) in
         let size = ap (λ n. firstOf ((ltb (length before) n, TooSmall) ∷ [])) (sym long) in cc
 
     pub not-encoded : (after : List ℕ) (r : Refusal) → NotEncoded ps ls before after r → NoFile bytes before after (Refused r)
@@ -92,7 +96,3 @@ module _ (bytes before : List ℕ) where
 
     pub encoded-back : (after : List ℕ) (size : ℕ) → Encoded ps ls before after size → SameFile bytes before after size
     encoded-back after size e = record { accepted = same-fault ∙ e .accepted; answer = e .answer ∙ long; file = e .file ∙ ap (written before 0) spelled }
-
--- a decoded content, as slices
-pub spelled-as : (bytes : List ℕ) (content : Content) (ps : List Pair) (ls : List LineRecord) → ps ≡ vec-items (content .pairs) → ls ≡ vec-items (content .lines) → Decoded bytes content → fileOf ps ls ≡ bytes
-spelled-as bytes content ps ls p l d = ap (λ qs. fileOf qs ls) p ∙ ap (fileOf (vec-items (content .pairs))) l ∙ d .spelled

@@ -3,17 +3,17 @@ use native.Mathlib.Omega.{arith}
 use lib.ListN.{length}
 use borrow.Author.Needs.{needs}
 use Rattle.std.proofs.shelf.Lists.{take-rest}
-use Rattle.book_file.proofs.Numbers.{two-at, four-at}
+use Rattle.book_file.proofs.Fronts.{header-at}
 use Rattle.book_file.proofs.records.HeaderLayout.parse.Needs as need
 
 pub returns : need.returns
 returns c =
     let bs = c .args .from .now in
     let long : 16 ≤ length bs = search needs in
-    let bytes = c .typed .from in
-    let size = four-at bs (λ i. omega (arith, bytes i)) 0 (c .from-le-bytes .result) (omega arith) (omega (arith, c .from-le-bytes .ensures)) in
-    let pairs = two-at bs (λ i. omega (arith, bytes i)) 4 (c .from-le-bytes-2 .result) (omega arith) (omega (arith, c .from-le-bytes-2 .ensures)) in
-    let lines = two-at bs (λ i. omega (arith, bytes i)) 6 (c .from-le-bytes-3 .result) (omega arith) (omega (arith, c .from-le-bytes-3 .ensures)) in
-    let pair-table = four-at bs (λ i. omega (arith, bytes i)) 8 (c .from-le-bytes-4 .result) (omega arith) (omega (arith, c .from-le-bytes-4 .ensures)) in
-    let line-table = four-at bs (λ i. omega (arith, bytes i)) 12 (c .from-le-bytes-5 .result) (omega arith) (omega (arith, c .from-le-bytes-5 .ensures)) in
-    let rest = take-rest bs 16 in cc
+    header-at bs _ (λ i. omega (arith, c .typed .from i)) _ long
+    (omega (arith, c .from-le-bytes .ensures))
+    (omega (arith, c .from-le-bytes-2 .ensures))
+    (omega (arith, c .from-le-bytes-3 .ensures))
+    (omega (arith, c .from-le-bytes-4 .ensures))
+    (omega (arith, c .from-le-bytes-5 .ensures))
+    (take-rest bs 16)
