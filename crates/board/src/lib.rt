@@ -1,5 +1,7 @@
 // The board: the grid of points under the index. One meaning, which every implementation is proved against, so that two
 // boards that mean the same answer alike.
+#![tactic(auto)]
+
 ghost use Rattle.board.specs.Meaning.{Meaning, Proper};
 ghost use Rattle.board.specs.Answering.{Sizes, Widens, Puts, Locates, Firsts};
 

@@ -1,5 +1,7 @@
 // How long a board takes to tell where a label stands: both boards in one run, at few and many rows and points. What
 // was answered goes to standard output, the times to standard error.
+#![tactic(auto)]
+
 use board::Board;
 use chained_board::chained_boards::ChainedBoard;
 use grammar::limits::BYTE_STRANDS;

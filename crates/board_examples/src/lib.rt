@@ -1,4 +1,6 @@
 // Both boards side by side, and examples that are run on them.
+#![tactic(auto)]
+
 #[cfg(test)]
 mod both_boards;
 #[cfg(test)]

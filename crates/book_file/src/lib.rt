@@ -1,4 +1,6 @@
 // The book file: its layout taken apart and put together.
+#![tactic(auto)]
+
 pub mod decode;
 pub mod encode;
 pub mod laws;

@@ -1,4 +1,6 @@
 // Examples and vectors, run against the public interface.
+#![tactic(auto)]
+
 #[cfg(test)]
 mod files;
 #[cfg(test)]

@@ -1,10 +1,10 @@
 -- Laws of tapes.
-use Rattle.std.proofs.Common.{◌≡◌, ℕ, zero, suc, ◌+◌, ◌-◌, ◌<◌, true, ◌&&◌, ltb, List, [], ◌∷◌, ◌++◌, map, length, get_or, sym, refl, ap, ◌∙◌, subst, arith, length-append}
+use Rattle.std.proofs.Common.{◌≡◌, ℕ, zero, suc, ◌+◌, ◌-◌, ◌<◌, true, ◌&&◌, ltb, List, [], ◌∷◌, ◌++◌, length, get_or, sym, refl, ap, ◌∙◌, subst, arith, length-append}
 use Rattle.std.proofs.lemmas.List.FromFn.{length-map-range_with_len, get_or-map-range_with_len}
 use Rattle.std.proofs.lemmas.List.{get_or_append_left, get_or-append_right}
 use Rattle.std.proofs.lemmas.Bool.{and_parts, ltb-true}
 use Rattle.grammar.specs.Laws.{ByteTapes, PairTapes, OlderTapesStay}
-use Rattle.grammar.specs.Tapes.{byte_tapes, with_pair, tapes_from, tapes, tape, older_from, well_joined}
+use Rattle.grammar.specs.Tapes.{byte_tapes, with_pair, tapes_from, tapes, older_from, well_joined}
 
 length-tapes_from : (ts : List (List ℕ)) (ps : List (ℕ × ℕ)) → length (tapes_from ts ps) ≡ length ts + length ps
 length-tapes_from ts [] = omega arith

@@ -3,7 +3,7 @@ use Rattle.std.specs.Prelude.{◌≡◌, ℕ, ◌+◌, ◌<◌, ◌≤◌, Bool,
 use Rattle.grammar.specs.Limits.{byte_strand_count}
 use Rattle.grammar.specs.Orders.{comes, ahead, fore_key, back_key, StrictTotal}
 use Rattle.grammar.specs.Places.{places, AllPlaces}
-use Rattle.grammar.specs.Tapes.{tape, tapes, strands, well_joined}
+use Rattle.grammar.specs.Tapes.{tape, strands, well_joined}
 
 -- the tape of byte strand c is byte c
 abbrev pub ByteTapes : Type 0

@@ -1,4 +1,6 @@
 // The vocabulary of a book of spliced logs, and the definitions that everything above is proved against.
+#![tactic(auto)]
+
 pub mod laws;
 pub mod limits;
 pub mod refusals;

@@ -1,3 +1,5 @@
 // The board of small units: points in the order put, in a table that the caller lends.
+#![tactic(auto)]
+
 pub mod list_boards;
 pub mod points;

@@ -1,4 +1,6 @@
 // Tells what the book file `survey.book` in the current folder holds, or why it is refused.
+#![tactic(auto)]
+
 use grammar::limits::MAX_FILE;
 use std::io::{Read, Write};
 use std::{fs, io};
