@@ -42,9 +42,9 @@ pub enum Answer {
 
 // Makes a call.
 pub fn serve<B: Board>(board: &mut B, call: Call) -> Answer
-    requires { ok board.old }
-    ensures ok { ok board.new }
-    ensures serves { Serves (means board.old) call result (means board.new) }
+    requires { B.ok board.old }
+    ensures ok { B.ok board.new }
+    ensures serves { Serves (B.means board.old) call result (B.means board.new) }
 {
     match call {
         Call::AskSize => Answer::Counts(board.size()),
@@ -57,13 +57,13 @@ pub fn serve<B: Board>(board: &mut B, call: Call) -> Answer
 
 // Makes a call on two boards. Where they mean the same they answer alike, and mean the same afterwards.
 pub fn serve_both<A: Board, B: Board>(one: &mut A, other: &mut B, call: Call) -> (Answer, Answer)
-    requires one { A.Board.ok one.old }
-    requires other { B.Board.ok other.old }
-    ensures one_ok { A.Board.ok one.new }
-    ensures other_ok { B.Board.ok other.new }
-    ensures one { Serves (A.Board.means one.old) call result.0 (A.Board.means one.new) }
-    ensures other { Serves (B.Board.means other.old) call result.1 (B.Board.means other.new) }
-    ensures alike { A.Board.means one.old ≡ B.Board.means other.old → (result.0 ≡ result.1) × (A.Board.means one.new ≡ B.Board.means other.new) }
+    requires one { A.ok one.old }
+    requires other { B.ok other.old }
+    ensures one_ok { A.ok one.new }
+    ensures other_ok { B.ok other.new }
+    ensures one { Serves (A.means one.old) call result.0 (A.means one.new) }
+    ensures other { Serves (B.means other.old) call result.1 (B.means other.new) }
+    ensures alike { A.means one.old ≡ B.means other.old → (result.0 ≡ result.1) × (A.means one.new ≡ B.means other.new) }
 {
     (serve(one, call), serve(other, call))
 }
@@ -76,13 +76,13 @@ pub fn replay_both<A: Board, B: Board>(
     other: &mut B,
     calls: &[Call],
 ) -> Result<(Vec<Answer>, Vec<Answer>), AllocError>
-    requires one { A.Board.ok one.old }
-    requires other { B.Board.ok other.old }
-    ensures one_ok { A.Board.ok one.new }
-    ensures other_ok { B.Board.ok other.new }
-    ensures one { MatchResult result (λ both. Runs (A.Board.means one.old) calls.now both.0.items (A.Board.means one.new)) (λ _. A.Board.means one.new ≡ A.Board.means one.old) }
-    ensures other { MatchResult result (λ both. Runs (B.Board.means other.old) calls.now both.1.items (B.Board.means other.new)) (λ _. B.Board.means other.new ≡ B.Board.means other.old) }
-    ensures alike { A.Board.means one.old ≡ B.Board.means other.old → IfOk result (λ both. (both.0.items ≡ both.1.items) × (A.Board.means one.new ≡ B.Board.means other.new)) }
+    requires one { A.ok one.old }
+    requires other { B.ok other.old }
+    ensures one_ok { A.ok one.new }
+    ensures other_ok { B.ok other.new }
+    ensures one { MatchResult result (λ both. Runs (A.means one.old) calls.now both.0.items (A.means one.new)) (λ _. A.means one.new ≡ A.means one.old) }
+    ensures other { MatchResult result (λ both. Runs (B.means other.old) calls.now both.1.items (B.means other.new)) (λ _. B.means other.new ≡ B.means other.old) }
+    ensures alike { A.means one.old ≡ B.means other.old → IfOk result (λ both. (both.0.items ≡ both.1.items) × (A.means one.new ≡ B.means other.new)) }
 {
     let mut answers = Vec::with_capacity(heap, calls.len())?;
     let mut others = Vec::with_capacity(heap, calls.len())?;

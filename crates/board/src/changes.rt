@@ -13,7 +13,7 @@ pub trait Change<T> {
 
 // Changes each element in place.
 pub fn change_each<T: Copy, C: Change<T>>(table: &mut [T], by: &C)
-    ensures { table.new ≡ map (made by.now) table.old }
+    ensures { table.new ≡ map (C.made by.now) table.old }
 {
     for i in 0..table.len() {
         table[i] = by.change(table[i]);

@@ -21,8 +21,8 @@ struct Load {
 const QUESTIONS: u32 = 400000;
 
 fn widen_to<B: Board>(board: &mut B, rows: u16)
-    requires { ok board.old }
-    ensures { ok board.new }
+    requires { B.ok board.old }
+    ensures { B.ok board.new }
 {
     for row in BYTE_STRANDS..rows {
         let _ = board.widen(BackRank(row / 2), ForeRank(row / 3));
@@ -31,8 +31,8 @@ fn widen_to<B: Board>(board: &mut B, rows: u16)
 
 // Points with labels from 0 on, spread over the rows.
 fn put_points<B: Board>(board: &mut B, load: Load)
-    requires { ok board.old }
-    ensures { ok board.new }
+    requires { B.ok board.old }
+    ensures { B.ok board.new }
 {
     for label in 0..load.points {
         let _ = board.put(BackRank(label % 256), ForeRank(label / 8), Strand(label));
@@ -46,7 +46,7 @@ fn thrown(seed: u32) -> u32 {
 
 // Asks for labels as if thrown, each question going by the answer before it, and gives the sum of the rows.
 fn ask<B: Board>(board: &B, points: u16) -> u32
-    requires { ok board.now }
+    requires { B.ok board.now }
 {
     let mut sum: u32 = 0;
     let mut seed: u32 = 1;
@@ -62,7 +62,7 @@ fn ask<B: Board>(board: &B, points: u16) -> u32
 
 // Fills a board, asks, and tells the time for one question.
 fn measure<B: Board>(rt: &HostRuntime, name: &str, board: &mut B, load: Load) -> io::Result<u32>
-    requires { ok board.old }
+    requires { B.ok board.old }
 {
     put_points(board, load);
     widen_to(board, load.rows);

@@ -100,7 +100,7 @@ pub fn open(bytes: &[u8]) -> Result<Tables<'_>, Refusal>
 
 // The records of a table, in order, up to what is too short for one more.
 fn records<R: Record>(heap: Global, table: &[u8]) -> Result<Vec<R>, AllocError>
-    ensures { IfOk result (λ v. ((rest : List ℕ) × (flat_map bytes v.items ++ rest ≡ table.now) × (length rest < width))) }
+    ensures { IfOk result (λ v. ((rest : List ℕ) × (flat_map R.bytes v.items ++ rest ≡ table.now) × (length rest < R.width))) }
 {
     let mut found = Vec::new(heap);
     let mut rest = table;

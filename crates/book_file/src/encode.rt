@@ -36,9 +36,9 @@ fn header_for(pairs: usize, lines: usize, room: usize) -> Result<Header, Refusal
 
 // Writes the records one behind the other from the place on, and answers the place behind the last.
 fn write_all<R: Record>(records: &[R], buffer: &mut [u8], place: usize) -> usize
-    requires { place + width * length records.now ≤ length buffer.old }
-    ensures next { result ≡ place + width * length records.now }
-    ensures after { buffer.new ≡ written buffer.old place (flat_map bytes records.now) }
+    requires { place + R.width * length records.now ≤ length buffer.old }
+    ensures next { result ≡ place + R.width * length records.now }
+    ensures after { buffer.new ≡ written buffer.old place (flat_map R.bytes records.now) }
 {
     let mut next = place;
     for record in records {
