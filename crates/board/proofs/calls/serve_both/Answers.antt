@@ -5,7 +5,7 @@ pub returns : goal.returns
 returns g c =
     record {
       one_ok = c.serve.ensures.ok;
-      other-ok = c.serve-2.ensures.ok;
+      other_ok = c.serve-2.ensures.ok;
       one = c.serve.ensures.serves;
       other = c.serve-2.ensures.serves;
       alike = boards_alike _ _ _ _ _ _ _ c.serve.ensures.serves c.serve-2.ensures.serves;

@@ -6,11 +6,11 @@ use Rattle.list_board.specs.Listing.{meaning, listed}
 use Rattle.board_examples.proofs.Sides.{answer_alike, nothing_made}
 use Rattle.board_examples.proofs.side_by_side.side_by_side.Goals as goal
 
-pub returns-in-err-chained : goal.returns-in-err-chained
-returns-in-err-chained c = nothing_made c.from-residual-in-err-chained.result _ c.from-residual-in-err-chained.ensures.0
+pub returns-in_err-chained : goal.returns-in_err-chained
+returns-in_err-chained c = nothing_made c.from_residual-in_err-chained.result _ c.from_residual-in_err-chained.ensures.0
 
 pub returns : goal.returns
 returns c =
-    let list-is : meaning (listed c.new-list.result) ≡ clean max_pairs = c.new-list.ensures.means ∙ ap clean (omega (arith, c.deref-mut.ensures.len, c.in-ok-table.ensures.len)) in
-    let chained-is : chained_meaning c.in-ok-chained.chained ≡ clean max_pairs = c.in-ok-chained.ensures.1 in
-    answer_alike vec_items c.replay-both.result _ _ _ _ _ list-is (list-is ∙ sym chained-is) c.replay-both.ensures.one c.replay-both.ensures.alike
+    let list-is : meaning (listed c.new-list.result) ≡ clean max_pairs = c.new-list.ensures.means ∙ ap clean (omega (arith, c.deref_mut.ensures.len, c.in_ok-table.ensures.len)) in
+    let chained-is : chained_meaning c.in_ok-chained.chained ≡ clean max_pairs = c.in_ok-chained.ensures.1 in
+    answer_alike vec_items c.replay_both.result _ _ _ _ _ list-is (list-is ∙ sym chained-is) c.replay_both.ensures.one c.replay_both.ensures.alike

@@ -10,4 +10,4 @@ loop-next-smaller g c =
 pub loop-next-preserved : goal.loop-next-preserved
 loop-next-preserved g c =
     taken_more g.R.Record.bytes (vec_items c.loop-next.found) (vec_items c.push.new.self) c.in-Some.next.0 c.loop-next.rest.now c.in-Some.next.1.now c.args.table.now
-    c.loop-next.invariant c.in-Some.ensures c.in-ok-push.ensures.items
+    c.loop-next.invariant c.in-Some.ensures c.in_ok-push.ensures.items

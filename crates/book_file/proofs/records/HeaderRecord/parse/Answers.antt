@@ -7,10 +7,10 @@ pub returns : goal.returns
 returns c =
     let bs = c.args.from.now in
     let long : 16 ≤ length bs = search rules in
-    header_at bs _ (λ i. omega (arith, c.type-inv.from i)) _ long
-    (omega (arith, c.from-le-bytes.ensures))
-    (omega (arith, c.from-le-bytes-2.ensures))
-    (omega (arith, c.from-le-bytes-3.ensures))
-    (omega (arith, c.from-le-bytes-4.ensures))
-    (omega (arith, c.from-le-bytes-5.ensures))
+    header_at bs _ (λ i. omega (arith, c.type_inv.from i)) _ long
+    (omega (arith, c.from_le_bytes.ensures))
+    (omega (arith, c.from_le_bytes-2.ensures))
+    (omega (arith, c.from_le_bytes-3.ensures))
+    (omega (arith, c.from_le_bytes-4.ensures))
+    (omega (arith, c.from_le_bytes-5.ensures))
     (take_rest bs 16)

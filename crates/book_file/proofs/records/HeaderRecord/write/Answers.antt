@@ -7,11 +7,11 @@ pub returns : goal.returns
 returns c =
     let h = c.args.self in
     let before = c.args.buffer.now in
-    let size = c.write-four-place.ensures in
-    let pairs = c.write-two-place.ensures in
-    let lines = c.write-two-place-2.ensures in
-    let pair-table = c.write-four-place-2.ensures in
-    let line-table = c.write-four.ensures in
+    let size = c.write_four-place.ensures in
+    let pairs = c.write_two-place.ensures in
+    let lines = c.write_two-place-2.ensures in
+    let pair-table = c.write_four-place-2.ensures in
+    let line-table = c.write_four.ensures in
     let to-pairs = four h.size ++ two h.pairs in
     let to-lines = to-pairs ++ two h.lines in
     let two_fields = then_written before (four h.size) (two h.pairs) (omega arith) (omega arith) size.after pairs.after in

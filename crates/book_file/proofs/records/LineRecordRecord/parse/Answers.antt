@@ -7,8 +7,8 @@ pub returns : goal.returns
 returns c =
     let bs = c.args.from.now in
     let long : 8 ≤ length bs = search rules in
-    line_at bs _ (λ i. omega (arith, c.type-inv.from i)) _ long
-    (omega (arith, c.from-le-bytes.ensures))
-    (omega (arith, c.from-le-bytes-2.ensures))
-    (omega (arith, c.from-le-bytes-3.ensures))
+    line_at bs _ (λ i. omega (arith, c.type_inv.from i)) _ long
+    (omega (arith, c.from_le_bytes.ensures))
+    (omega (arith, c.from_le_bytes-2.ensures))
+    (omega (arith, c.from_le_bytes-3.ensures))
     (take_rest bs 8)

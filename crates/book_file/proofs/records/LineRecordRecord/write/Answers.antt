@@ -7,8 +7,8 @@ pub returns : goal.returns
 returns c =
     let line = c.args.self in
     let before = c.args.buffer.now in
-    let number = c.write-two-place.ensures in
-    let strand = c.write-two-place-2.ensures in
-    let tape = c.write-four.ensures in
+    let number = c.write_two-place.ensures in
+    let strand = c.write_two-place-2.ensures in
+    let tape = c.write_four.ensures in
     let front = then_written before (two line.number) (two line.strand.0) (omega arith) (omega arith) number.after strand.after in
     record { next = omega arith; after = then_written before (two line.number ++ two line.strand.0) (four line.length) (omega arith) (omega arith) front tape.after }

@@ -7,7 +7,7 @@ pub returns : goal.returns
 returns c =
     let bs = c.args.from.now in
     let long : 4 ≤ length bs = search rules in
-    pair_at bs _ (λ i. omega (arith, c.type-inv.from i)) _ long
-    (omega (arith, c.from-le-bytes.ensures))
-    (omega (arith, c.from-le-bytes-2.ensures))
+    pair_at bs _ (λ i. omega (arith, c.type_inv.from i)) _ long
+    (omega (arith, c.from_le_bytes.ensures))
+    (omega (arith, c.from_le_bytes-2.ensures))
     (take_rest bs 4)

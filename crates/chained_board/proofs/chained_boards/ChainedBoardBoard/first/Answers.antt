@@ -26,7 +26,7 @@ pub points-smaller : goal.points-smaller
 points-smaller c = omega (arith, walk_less c.requires.sound c.in-Some.is (get_or_read _ _ _ (walk_at c.in-Some.is c.points.invariant).0 c.index-point.ensures blank) c.points.invariant)
 
 pub points-preserved : goal.points-preserved
-points-preserved c = walk_step c.requires.sound (omega arith) c.in-Some.is (get_or_read _ _ _ (walk_at c.in-Some.is c.points.invariant).0 c.index-point.ensures blank) c.is-hit-hit.ensures c.lowest-hit-least.ensures c.points.invariant
+points-preserved c = walk_step c.requires.sound (omega arith) c.in-Some.is (get_or_read _ _ _ (walk_at c.in-Some.is c.points.invariant).0 c.index-point.ensures blank) c.is_hit-hit.ensures c.lowest_hit-least.ensures c.points.invariant
 
 pub rows-preserved : goal.rows-preserved
-rows-preserved c = walk_end c.requires.sound c.in-default.is c.points.invariant
+rows-preserved c = walk_end c.requires.sound c.in_default.is c.points.invariant

@@ -4,4 +4,4 @@ use Rattle.list_board.proofs.Places.{index_stands}
 use Rattle.list_board.proofs.list_boards.ListBoard.has_label.Goals as goal
 
 pub returns : goal.returns
-returns c = c.is-some.ensures ∙ sym (index_stands (records (listed c.args.self.now)) c.args.label.0 c.index-of.result c.requires.once c.index-of.ensures)
+returns c = c.is_some.ensures ∙ sym (index_stands (records (listed c.args.self.now)) c.args.label.0 c.index_of.result c.requires.once c.index_of.ensures)

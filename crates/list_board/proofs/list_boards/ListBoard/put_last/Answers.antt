@@ -11,10 +11,10 @@ returns c =
     let b = listed c.args.self.now in
     let p = c.args.point in
     let m = meaning b in
-    let free : stands m p.label.0 ≡ false = sym {b = stands m p.label.0} c.if-has-label.ensures in
-    let clear : put_refusal m p.row.0 p.column.0 p.label.0 ≡ None = may_put m p.row.0 p.column.0 p.label.0 c.if-point-self.false c.if-point-self-2.false c.if-point-ge-MAX-STRANDS.false free (omega (arith, c.if-self.false, c.requires.counted)) in
+    let free : stands m p.label.0 ≡ false = sym {b = stands m p.label.0} c.if-has_label.ensures in
+    let clear : put_refusal m p.row.0 p.column.0 p.label.0 ≡ None = may_put m p.row.0 p.column.0 p.label.0 c.if-point-self.false c.if-point-self-2.false c.if-point-ge-MAX_STRANDS.false free (omega (arith, c.if-self.false, c.requires.counted)) in
     record {
-      ok = put_whole b p c.if-self.false free c.if-point-self.false c.if-point-self-2.false c.if-point-ge-MAX-STRANDS.false c.requires;
+      ok = put_whole b p c.if-self.false free c.if-point-self.false c.if-point-self-2.false c.if-point-ge-MAX_STRANDS.false c.requires;
       puts = accepted (put_refusal m p.row.0 p.column.0 p.label.0) m (placed m p.row.0 p.column.0 p.label.0) _ clear (put_meaning b p c.if-self.false free);
       holds = refl;
     }

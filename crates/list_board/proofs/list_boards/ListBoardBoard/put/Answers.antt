@@ -3,5 +3,5 @@ use Rattle.list_board.proofs.list_boards.ListBoardBoard.put.Goals as goal
 
 pub returns : goal.returns
 returns c =
-    let done = c.put-last.ensures in
-    record { ok = done.ok; keeps = (c.put-last.result, inl (_, done.holds)); puts = done.puts }
+    let done = c.put_last.ensures in
+    record { ok = done.ok; keeps = (c.put_last.result, inl (_, done.holds)); puts = done.puts }
