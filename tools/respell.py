@@ -37,7 +37,7 @@ OTHERS = {
     "lineTable": "lines_table",
 }
 
-WORD = re.compile(r"(?<![\w'\-◌])[A-Za-z][\w']*(?:-[\w'≡≤<+*]+)*")
+WORD = re.compile(r"(?<![\w'\-◌\\])[A-Za-z][\w']*(?:-[\w'≡≤<+*]+)*")
 CAMEL = re.compile(r"[a-z][a-z0-9]*(?:[A-Z][a-z0-9]*)+'*$")
 HEAD = re.compile(r"^(?:(?:abbrev|unfoldable|pub)\s+)*([A-Za-z][\w'\-]*)\s*:\s", re.M)
 FIELD = re.compile(r"^  pub ([A-Za-z][\w'\-]*)\s*:\s", re.M)

@@ -12,7 +12,7 @@ use std::test::Fail;
 
 // Three pairs, AB, ABAB and ABABA; line 7 is the last of them, strand 258, of 5 bytes.
 const SAMPLE: &[u8; 36] =
-    b"\x24\0\0\0\x03\0\x01\0\x10\0\0\0\x1_c\0\0\0\x41\0\x42\0\0\x01\0\x01\x01\x01\x41\0\x07\0\x02\x01\x05\0\0\0";
+    b"\x24\0\0\0\x03\0\x01\0\x10\0\0\0\x1C\0\0\0\x41\0\x42\0\0\x01\0\x01\x01\x01\x41\0\x07\0\x02\x01\x05\0\0\0";
 
 const WHOLE: &str = "pairs 3\nlines 1\nline 7 strand 258 length 5\n";
 
