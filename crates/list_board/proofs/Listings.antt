@@ -1,5 +1,5 @@
 -- What each call makes of a list board: it stays whole, and its meaning changes as the rules say.
-use Rattle.std.proofs.Common.{◌≡◌, ℕ, ◌+◌, ◌-◌, ◌<◌, min, false, cond, eqb, List, ◌++◌, map, length, get_or, take, drop, is_some, Some, sym, refl, ap, ◌∙◌, ⊎_elim, arith, length-set}
+use Rattle.std.proofs.Common.{◌≡◌, ℕ, ◌-◌, ◌<◌, min, false, cond, eqb, List, ◌++◌, map, length, get_or, take, drop, is_some, Some, sym, refl, ap, ◌∙◌, ⊎_elim, arith, length-set}
 use mathlib.Core.Path.{fun_ext}
 use Rattle.std.proofs.lemmas.List.{take_more_set, take_at, take_all, get_or-take, length-map, length-append, length-take, length-take-le, length-drop}
 use Rattle.std.proofs.lemmas.Bool.{cases_lt}
