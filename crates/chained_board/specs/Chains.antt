@@ -1,5 +1,5 @@
 -- What the tables of a chained board mean, and what holds of them.
-use Rattle.std.specs.Prelude.{◌≡◌, ℕ, zero, suc, ◌<◌, ◌≤◌, cond, List, length, get_or, Some, None, vec_items, vec_capacity, Option, ◌==◌, slice_index, slice_index_or}
+use Rattle.std.specs.Prelude.{◌≡◌, ℕ, zero, suc, ◌<◌, ◌≤◌, cond, List, length, Some, None, vec_items, vec_capacity, Option, ◌==◌, slice_index, slice_index_or}
 use Rattle.grammar.specs.Limits.{max_pairs, max_strands}
 use Rattle.grammar.specs.declared.strands.BackRank.{BackRank}
 use Rattle.board.specs.Meaning.{Meaning, Proper, count, held_rank}
@@ -22,7 +22,7 @@ slot_at slots s = slice_index_or slots s blank
 
 -- the row of a chain
 abbrev pub row_of : List BackRank → ℕ → ℕ
-row_of rows chain = (get_or rows chain (record { 0 = 0 })).0
+row_of rows chain = (slice_index_or rows chain (record { 0 = 0 })).0
 
 -- the row and the column of a slot's point
 abbrev pub place_of : List Slot → List BackRank → Option ℕ → Option (ℕ × ℕ)
