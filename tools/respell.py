@@ -5,8 +5,9 @@ usage: python3 tools/respell.py    at the top, once, after the toolchain's own s
 
 It goes over the .antt and .rt files of crates/: `byteStrands` becomes `byte_strands`, `clean-proper` becomes
 `clean_proper`. A dash stays where it joins the names of two definitions (JOINED), in names of the library, and in the
-names that the check gives to goals and steps. Types and modules keep their capitals. Strings, code, files of edits,
-inputs and outputs hold no such name and stay as they are. It stops where two names would fall together.
+names that the check gives to goals and steps. Types and modules keep their capitals. It goes over whole files, strings
+too, but passes over what follows a backslash; files of edits, inputs and outputs are not read. It stops where two names
+of one file, or two old names, would fall together, and prints a new name that is a definition elsewhere.
 """
 
 import os

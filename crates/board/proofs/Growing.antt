@@ -81,7 +81,7 @@ pub put_counts_one_more : PutCountsOneMore
 put_counts_one_more m row column label e = let h = free m row column label e in count-placed m row column label h.2 h.3
 
 pub widen_then_put : WidenThenPut
-widen_then_put m a b row column label w on_Row on_column low none room =
+widen_then_put m a b row column label w on_row on_column low none room =
     let n : Meaning = widened m a b in
     let same : count n ≡ count m = count-widened m a b in
     let gone : stands n label ≡ false = some_moved a b (place_at m label) ∙ none in (

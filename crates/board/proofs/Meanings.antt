@@ -109,7 +109,7 @@ widened_proper m row column rows columns w =
     }
 
 pub placed_proper : (m : Meaning) (row column label : ℕ) → row < m.rows → column < m.columns → label < max_strands → stands m label ≡ false → count m < m.capacity → Proper m → Proper (placed m row column label)
-placed_proper m row column label on_Row on_column low free room w =
+placed_proper m row column label on_row on_column low free room w =
     record {
       rows_few = w.rows_few;
       columns_few = w.columns_few;
@@ -133,10 +133,10 @@ pub located_stands : (m : Meaning) (label : Strand) (answer : Option (BackRank �
 located_stands m label answer e = ap is_some e ∙ mapped_some (place_at m label.0)
 
 pub may_widen : (m : Meaning) (row column : ℕ) → m.rows < max_strands → m.columns < max_strands → row ≤ m.rows → column ≤ m.columns → widen_refusal m row column ≡ None
-may_widen m row column rows columns on_Row on_column = grind (arith, nat_tests)
+may_widen m row column rows columns on_row on_column = grind (arith, nat_tests)
 
 pub may_put : (m : Meaning) (row column label : ℕ) → row < m.rows → column < m.columns → label < max_strands → stands m label ≡ false → count m < m.capacity → put_refusal m row column label ≡ None
-may_put m row column label on_Row on_column low free room = grind (arith, nat_tests)
+may_put m row column label on_row on_column low free room = grind (arith, nat_tests)
 
 -- a call that is accepted
 pub accepted : (refusal : Option Refusal) (m changed after : Meaning) → refusal ≡ None → after ≡ changed → Settles refusal m changed (Ok tt) after
@@ -149,8 +149,8 @@ widened_as m after row column n is rows columns counted w =
     (ap count is ∙ (count-widened m row column ∙ counted), subst P (sym is) (widened_proper m row column rows columns w))
 
 pub placed_as : (m after : Meaning) (row column label n : ℕ) → after ≡ placed m row column label → row < m.rows → column < m.columns → label < max_strands → stands m label ≡ false → n < m.capacity → count m ≡ n → Proper m → (count after ≡ n + 1) × Proper after
-placed_as m after row column label n is on_Row on_column low free room counted w =
+placed_as m after row column label n is on_row on_column low free room counted w =
     let P : Meaning → Type 0 = Proper in (
       ap count is ∙ (count-placed m row column label low free ∙ ap (λ (k : ℕ). k + 1) counted),
-      subst P (sym is) (placed_proper m row column label on_Row on_column low free (omega (arith, counted)) w),
+      subst P (sym is) (placed_proper m row column label on_row on_column low free (omega (arith, counted)) w),
     )

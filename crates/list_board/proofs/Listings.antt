@@ -41,8 +41,8 @@ put_meaning b p room free =
     cc
 
 pub put_whole : (b : Listing) (p : Point) → b.filled < length b.table → is_some (place_in (records b) p.label.0) ≡ false → p.row.0 < b.rows → p.column.0 < b.columns → p.label.0 < max_strands → Whole b → Whole (with_point b p)
-put_whole b p room free on_Row on_column low whole =
-    let held = placed_as (meaning b) (meaning (with_point b p)) p.row.0 p.column.0 p.label.0 b.filled (put_meaning b p room free) on_Row on_column low free room whole.counted whole.proper in
+put_whole b p room free on_row on_column low whole =
+    let held = placed_as (meaning b) (meaning (with_point b p)) p.row.0 p.column.0 p.label.0 b.filled (put_meaning b p room free) on_row on_column low free room whole.counted whole.proper in
     record {
       fits = omega (arith, length-set b.table b.filled p);
       once = ap distinct (take_more_set b.table b.filled p room) ∙ distinct_more (records b) p whole.once free;

@@ -11,6 +11,6 @@ returns-in_err-chained c = nothing_made c.from_residual-in_err-chained.result _ 
 
 pub returns : goal.returns
 returns c =
-    let list-is : meaning (listed c.new-list.result) ≡ clean max_pairs = c.new-list.ensures.means ∙ ap clean (omega (arith, c.deref_mut.ensures.len, c.in_ok-table.ensures.len)) in
-    let chained-is : chained_meaning c.in_ok-chained.chained ≡ clean max_pairs = c.in_ok-chained.ensures.1 in
-    answer_alike vec_items c.replay_both.result _ _ _ _ _ list-is (list-is ∙ sym chained-is) c.replay_both.ensures.one c.replay_both.ensures.alike
+    let list_is : meaning (listed c.new-list.result) ≡ clean max_pairs = c.new-list.ensures.means ∙ ap clean (omega (arith, c.deref_mut.ensures.len, c.in_ok-table.ensures.len)) in
+    let chained_is : chained_meaning c.in_ok-chained.chained ≡ clean max_pairs = c.in_ok-chained.ensures.1 in
+    answer_alike vec_items c.replay_both.result _ _ _ _ _ list_is (list_is ∙ sym chained_is) c.replay_both.ensures.one c.replay_both.ensures.alike
