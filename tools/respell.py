@@ -86,28 +86,25 @@ def main():
                 return JOINED.get(name, name)
             if name in OTHERS:
                 return OTHERS[name]
-            if CAMEL.match(name):
-                pass
-            elif "-" in name and name[0].islower():
-                if path.endswith(".rt") or (name not in own and name not in fields and is_goals(path)):
-                    return name
-            else:
+            dashed = "-" in name and name[0].islower() and not path.endswith(".rt")
+            ours = name in own or name in fields or not is_goals(path)
+            if not CAMEL.match(name) and not (dashed and ours):
                 return name
-            respelled.setdefault(name, snake(name))
+            respelled[name] = snake(name)
             return respelled[name]
 
         return WORD.sub(word, text)
 
     turned = {p: turn(p, t) for p, t in texts.items()}
     before = {p: set(WORD.findall(t)) for p, t in texts.items()}
-    clash = 0
+    clash = False
     for old, new in sorted(respelled.items()):
         where = [p for p in texts if old in before[p] and new in before[p]]
         others = [o for o, n in respelled.items() if n == new and o != old]
         if where or others or (new in own | fields):
             print(f"look: {old} becomes {new}: {' '.join(others)} {' '.join(where)}", file=sys.stderr)
-            clash += bool(where or others)
-    if clash and "--anyway" not in sys.argv:
+            clash = clash or bool(where or others)
+    if clash:
         raise SystemExit(1)
     for path, text in turned.items():
         if text != texts[path]:
