@@ -70,4 +70,4 @@ accepted_bytes_are_files bytes b e =
     let o = opened bytes h rest (take cut rest) (drop cut rest) (header_at bytes rest b h p.0 refl refl refl refl refl refl) p.1 (sym (take-append-drop cut rest)) front in
     let (pairs, pairs_table) = table_of pair_bytes 4 read_pair h.pairs (take cut rest) (bytes_take cut rest inside (bytes_drop 16 bytes b)) front in
     let (lines, lines_table) = table_of line_bytes 8 read_line h.lines (drop cut rest) (bytes_drop cut rest (bytes_drop 16 bytes b)) o.lines in
-    (pairs, lines, spelled bytes h.pairs h.lines (take cut rest) (drop cut rest) o pairs [] (append-nil (flat_map pair_bytes pairs) ∙ pairs_table) (omega arith) lines [] (append-nil (flat_map line_bytes lines) ∙ lines_table) (omega arith))
+    (pairs, lines, spelled o pairs [] (append-nil (flat_map pair_bytes pairs) ∙ pairs_table) (omega arith) lines [] (append-nil (flat_map line_bytes lines) ∙ lines_table) (omega arith))

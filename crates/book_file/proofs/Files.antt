@@ -144,13 +144,19 @@ opened bytes h rest pairs lines e none cut long =
       whole = e ∙ ap (λ r. header_bytes h ++ r) cut ∙ ap (λ g. header_bytes g ++ (pairs ++ lines)) is.0;
     }
 
+-- the lengths of its tables tell how many pairs and lines a file has
+pub opened_lengths : {bytes : List ℕ} {p q : ℕ} {pairs lines : List ℕ} → Opened bytes p q pairs lines → Opened bytes (length pairs / 4) (length lines / 8) pairs lines
+opened_lengths {bytes} {p} {q} {pairs} {lines} o =
+    let pair_count : length pairs / 4 ≡ p = omega (arith, o.pairs) in
+    let line_count : length lines / 8 ≡ q = omega (arith, o.lines) in rw (pair_count, line_count) o
+
 -- tables read whole are those of a file
-pub spelled : (bytes : List ℕ) (p q : ℕ) (pairs_table lines_table : List ℕ) → Opened bytes p q pairs_table lines_table
+pub spelled : {bytes : List ℕ} {p q : ℕ} {pairs_table lines_table : List ℕ} → Opened bytes p q pairs_table lines_table
     → (ps : List Pair) (pair_rest : List ℕ) → flat_map pair_bytes ps ++ pair_rest ≡ pairs_table → length pair_rest < 4
     → (ls : List LineRecord) (line_rest : List ℕ) → flat_map line_bytes ls ++ line_rest ≡ lines_table → length line_rest < 8
     → file_of ps ls ≡ bytes
 unfolding file_of
-spelled bytes p q pairs_table lines_table o ps pair_rest a pair_short ls line_rest b line_short =
+spelled {bytes} {p} {q} {pairs_table} {lines_table} o ps pair_rest a pair_short ls line_rest b line_short =
     let pairs = ap length a ∙ o.pairs in
     let lines = ap length b ∙ o.lines in
     let pair_count : length ps ≡ p = omega (arith, pairs, length-append (flat_map pair_bytes ps) pair_rest, length_pairs ps) in

@@ -1,5 +1,5 @@
 -- Tables of records of one width.
-use Rattle.std.proofs.Common.{◌≡◌, ℕ, ◌+◌, ◌*◌, ◌<◌, ◌≤◌, List, [], ◌∷◌, ◌++◌, length, get_or, take, drop, sym, refl, ap, ◌∙◌, subst, append_assoc, mul-le-mul_left, mul-zero, mul-suc, add-one, arith, length-append}
+use Rattle.std.proofs.Common.{◌≡◌, ℕ, ◌+◌, ◌*◌, ◌<◌, ◌≤◌, List, [], ◌∷◌, ◌++◌, length, get_or, take, drop, sym, refl, ap, ◌∙◌, subst, mul-le-mul_left, mul-zero, mul-suc, add-one, arith, length-append}
 use Rattle.std.specs.List.{flat_map}
 use Rattle.std.proofs.lemmas.List.{take_at, drop_at, take_more, flat_map_more}
 
@@ -24,15 +24,6 @@ module _ {X : Type 0} (f : X → List ℕ) (w : ℕ) (fixed : (x : X) → length
       let p = same_parts (f x) (f y) (flat_map f xs) (flat_map f ys) (fixed x ∙ sym (fixed y)) e in
       let head = one x y p.0 in
       let tail = same_table one xs ys (omega arith) p.1 in cc
-
--- a record taken from the front of what is left goes behind those already taken
-pub taken_more : {X : Type 0} (f : X → List ℕ) (xs ys : List X) (x : X) (rest after table : List ℕ) → flat_map f xs ++ rest ≡ table → rest ≡ f x ++ after → ys ≡ xs ++ x ∷ [] → flat_map f ys ++ after ≡ table
-taken_more f xs ys x rest after table e cut pushed =
-    ap (λ zs. flat_map f zs ++ after) pushed ∙ ap (λ t. t ++ after) (sym (flat_map_more f [] xs x)) ∙ append_assoc (flat_map f xs) (f x) after ∙ ap (λ t. flat_map f xs ++ t) (sym cut) ∙ e
-
--- what is left falls with each record taken
-pub taken_less : {X : Type 0} (f : X → List ℕ) (w : ℕ) → ((x : X) → length (f x) ≡ w) → 0 < w → (x : X) (rest after : List ℕ) → rest ≡ f x ++ after → length after < length rest
-taken_less f w fixed some x rest after cut = omega (arith, ap length cut, length-append (f x) after, fixed x)
 
 -- one record more of those to write
 pub table_next : {X : Type 0} (f : X → List ℕ) (xs : List X) (i : ℕ) (x : X) → i < length xs → x ≡ get_or xs i x → flat_map f (take i xs) ++ f x ≡ flat_map f (take (i + 1) xs)

@@ -1,5 +1,5 @@
 // Decoding and encoding undo each other: the two calls made one after the other, with what must come back.
-ghost use Rattle.std.specs.Result.{MatchResult};
+ghost use Rattle.std.specs.Prelude.{MatchResult};
 ghost use Rattle.book_file.specs.RoundTrips.{SameContent, NoContent, SameFile, NoFile};
 
 use super::decode::{Content, Fault, decode};
