@@ -1,27 +1,26 @@
-use Rattle.std.proofs.Common.{◌≡◌, ◌*◌, length, take, ap, ◌∙◌, subst, arith}
-use Rattle.std.specs.List.{flat_map}
-use Rattle.std.proofs.lemmas.List.{length-take-le}
-use Rattle.book_file.specs.Writing.{Put}
+use Rattle.std.proofs.Common.{[], get_or, take, arith}
+use Rattle.std.proofs.lemmas.List.{take_more, flat_map_more}
+use Rattle.std.proofs.lemmas.List.Folds.{length-flat_map-take}
 use Rattle.book_file.proofs.Putting.{put_none, put_more}
-use Rattle.book_file.proofs.Tables.{length_table, table_next, width_room}
+use Rattle.book_file.proofs.Tables.{length_table}
 use Rattle.book_file.proofs.encode.write_all.Goals as goal
 
 pub loop-record-init : goal.loop-record-init
-loop-record-init g c = record { within = omega arith; put = put_none c.args.out.now }
+loop-record-init g c = put_none c.args.out.now
 
 pub write-requires : goal.write-requires
 write-requires g c =
-    let w = g.R.Record.width in
+    let r = g.R.Record in
+    let rs = c.args.records.now in
+    let i = c.loop-record.record-index in
+    let x = c.record-item.result in
+    let fits = length-flat_map-take r.bytes rs i x c.loop-record-test.true in
+    omega (arith, length_table r.bytes r.width g.met.R.Record.fixed rs, g.met.R.Record.fixed (get_or rs i x))
+
+pub loop-record-preserved : goal.loop-record-preserved
+loop-record-preserved g c =
     let bytes = g.R.Record.bytes in
     let rs = c.args.records.now in
     let i = c.loop-record.record-index in
-    let long : length (flat_map bytes (take i rs)) ≡ w * i = length_table bytes w g.met.R.Record.fixed (take i rs) ∙ ap (λ n. w * n) (length-take-le i rs c.loop-record.invariant.within) in
-    omega (arith, width_room w i (length rs) c.loop-record-test.true)
-
-pub loop-record-preserved : goal.loop-record-preserved
-loop-record-preserved g c = record {
-  within = omega arith;
-  put = subst (Put c.args.out.now c.write.new.out)
-      (table_next g.R.Record.bytes c.args.records.now c.loop-record.record-index c.record-item.result c.loop-record-test.true c.record-item.is)
-      (put_more c.loop-record.invariant.put c.write.ensures);
-}
+    let x = c.record-item.result in
+    rw (take_more rs i x c.loop-record-test.true, ← flat_map_more bytes [] (take i rs) (get_or rs i x), ← c.record-item.is) (put_more c.loop-record.invariant c.write.ensures)
