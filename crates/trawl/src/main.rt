@@ -1,6 +1,7 @@
 // Tells what the book file `survey.book` in the current folder holds, or why it is refused.
 #![tactic(auto)]
 
+use console::listing::listing;
 use grammar::limits::MAX_FILE;
 use std::io::{Print, Read};
 use std::{fs, io};
@@ -20,6 +21,6 @@ fn read_survey(rt: &HostRuntime, path: &str) -> io::Result<Vec<u8>> {
 
 fn main(rt: HostRuntime) -> io::Result<()> {
     let file = read_survey(&rt, "survey.book")?;
-    let text = console::listing::listing(rt.alloc(), file.as_slice())?;
+    let text = listing(rt.alloc(), &file)?;
     rt.print(text)
 }
