@@ -1,8 +1,9 @@
 -- What is accepted is the file of a content, and no longer than the largest.
-use Rattle.std.proofs.Common.{◌≡◌, ℕ, zero, suc, ◌+◌, ◌*◌, ◌<◌, ◌≤◌, Bool, true, false, cond, ltb, List, [], ◌∷◌, ◌++◌, length, take, drop, Some, None, Option, sym, refl, ap, ◌∙◌, subst, ⊎_elim, mul-zero, mul-suc, arith, length-drop, take-append-drop}
+use Rattle.std.proofs.Common.{◌≡◌, ℕ, zero, suc, ◌+◌, ◌*◌, ◌≤◌, List, [], ◌∷◌, ◌++◌, length, take, drop, None, sym, refl, ap, ◌∙◌, ⊎_elim, mul-zero, mul-suc, arith, length-drop, take-append-drop}
 use Rattle.std.specs.List.{flat_map}
 use Rattle.std.proofs.lemmas.List.{append-nil, nil_from_length, get_or-drop, get_or-take, get_or_past, length-take-le}
-use Rattle.std.proofs.lemmas.Bool.{cases_lt, ltb-false}
+use Rattle.std.proofs.lemmas.Bool.{cases_lt}
+use Rattle.std.proofs.lemmas.Bool.Decides.{nat_tests}
 use Rattle.grammar.specs.Refusals.{first_of}
 use Rattle.grammar.specs.declared.strands.Pair.{Pair}
 use Rattle.book_file.specs.Laws.{AcceptedBytesAreFiles, LargestFile}
@@ -13,13 +14,13 @@ use Rattle.book_file.proofs.Numbers.{Bytes}
 use Rattle.book_file.proofs.Fronts.{pair_at, line_at, header_at}
 
 bytes_drop : (n : ℕ) (bs : List ℕ) → Bytes bs → Bytes (drop n bs)
-bytes_drop n bs b i = subst (λ x. x < 256) (sym (get_or-drop n bs i 0)) (b (n + i))
+bytes_drop n bs b i = rw (get_or-drop n bs i 0) (b (n + i))
 
 bytes_take : (n : ℕ) (bs : List ℕ) → n ≤ length bs → Bytes bs → Bytes (take n bs)
 bytes_take n bs h b i =
     ⊎_elim
-    (λ l. subst (λ x. x < 256) (sym (get_or-take n bs i 0 l)) (b i))
-    (λ l. subst (λ x. x < 256) (sym (get_or_past (take n bs) i 0 (omega (arith, length-take-le n bs h)))) (omega arith))
+    (λ l. rw (get_or-take n bs i 0 l) (b i))
+    (λ l. rw (get_or_past (take n bs) i 0 (omega (arith, length-take-le n bs h))) (omega arith))
     (cases_lt i n)
 
 -- a table of n records, where each can be read
@@ -37,14 +38,9 @@ read_pair bs b h = let x : Pair = record { left = record { 0 = field 2 0 bs }; r
 read_line : (bs : List ℕ) → Bytes bs → 8 ≤ length bs → (x : LineRecord) × (bs ≡ line_bytes x ++ drop 8 bs)
 read_line bs b h = let x : LineRecord = record { number = field 2 0 bs; strand = record { 0 = field 2 2 bs }; length = field 4 4 bs } in (x, line_at bs (drop 8 bs) b x h refl refl refl refl)
 
--- the first test of a decision list that answers nothing failed, and so did the others
-passed : {X : Type 0} (b : Bool) (x : X) (o : Option X) → cond b (Some x) o ≡ None → (b ≡ false) × (o ≡ None)
-passed true x o e = absurd (grind arith)
-passed false x o e = (refl, e)
-
 accepted_parts : (bytes : List ℕ) → layout_fault bytes ≡ None → (16 ≤ length bytes) × (first_of (header_faults (header_in bytes) (length bytes)) ≡ None)
 unfolding layout_fault
-accepted_parts bytes e = let p = passed (ltb (length bytes) 16) _ (first_of (header_faults (header_in bytes) (length bytes))) e in (ltb-false (length bytes) 16 p.0, p.1)
+accepted_parts bytes e = (grind (arith, nat_tests), grind (arith, nat_tests))
 
 pub largest_file : LargestFile
 largest_file = (
@@ -70,4 +66,4 @@ accepted_bytes_are_files bytes b e =
     let o = opened bytes h rest (take cut rest) (drop cut rest) (header_at bytes rest b h p.0 refl refl refl refl refl refl) p.1 (sym (take-append-drop cut rest)) front in
     let (pairs, pairs_table) = table_of pair_bytes 4 read_pair h.pairs (take cut rest) (bytes_take cut rest inside (bytes_drop 16 bytes b)) front in
     let (lines, lines_table) = table_of line_bytes 8 read_line h.lines (drop cut rest) (bytes_drop cut rest (bytes_drop 16 bytes b)) o.lines in
-    (pairs, lines, spelled bytes h.pairs h.lines (take cut rest) (drop cut rest) o pairs [] (append-nil (flat_map pair_bytes pairs) ∙ pairs_table) (omega arith) lines [] (append-nil (flat_map line_bytes lines) ∙ lines_table) (omega arith))
+    (pairs, lines, spelled o pairs [] (append-nil (flat_map pair_bytes pairs) ∙ pairs_table) (omega arith) lines [] (append-nil (flat_map line_bytes lines) ∙ lines_table) (omega arith))

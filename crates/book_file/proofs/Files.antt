@@ -2,7 +2,7 @@
 use Rattle.std.proofs.Common.{◌≡◌, ℕ, zero, suc, ◌+◌, ◌*◌, ◌/◌, ◌%◌, ◌<◌, ◌≤◌, List, ◌++◌, length, take, Some, None, sym, refl, ap, ◌∙◌, ⊎_elim, arith, length-append}
 use Rattle.std.specs.List.{flat_map}
 use Rattle.std.proofs.lemmas.List.{append-nil, nil_from_length, take_all, get_or-take, length-take-le}
-use Rattle.std.proofs.lemmas.Bool.{cases_lt, le-ltb, lt-ltb, eq-eqb}
+use Rattle.std.proofs.lemmas.Bool.{cases_lt, le-ltb, lt-ltb}
 use Rattle.std.proofs.lemmas.Bool.Decides.{nat_tests}
 use Rattle.grammar.specs.Limits.{max_pairs, max_lines, max_file}
 use Rattle.grammar.specs.Refusals.{first_of}
@@ -29,7 +29,7 @@ four_tells m n e =
     let high = two_tells (m / 65536) (n / 65536) p.1 in omega arith
 
 same_strand : (a b : Strand) → a.0 ≡ b.0 → a ≡ b
-same_strand a b e = let same : ◌≡◌ {A = Strand} (record { 0 = a.0 }) (record { 0 = b.0 }) = cc in same
+same_strand a b e = ap (λ n. record { 0 = n }) e
 
 pair_tells : (x y : Pair) → pair_bytes x ≡ pair_bytes y → x ≡ y
 pair_tells x y e =
@@ -92,13 +92,7 @@ file_tells_content ps ps' ls ls' e =
 
 -- the checks pass on the header of a file and its size
 sound_header : (p q n : ℕ) → p ≤ max_pairs → q ≤ max_lines → n ≡ size_of p q → first_of (header_faults (header_of p q) n) ≡ None
-sound_header p q n a b e =
-    let pairs = le-ltb max_pairs p a in
-    let lines = le-ltb max_lines q b in
-    let offset = eq-eqb (16 + 4 * p) (16 + 4 * p) refl in
-    let size = eq-eqb (size_of p q) (size_of p q) refl in
-    let short = le-ltb n (size_of p q) (omega arith) in
-    let long = le-ltb (size_of p q) n (omega arith) in cc
+sound_header p q n a b e = grind (arith, nat_tests)
 
 pub files_are_accepted : FilesAreAccepted
 unfolding file_of layout_fault
@@ -144,13 +138,19 @@ opened bytes h rest pairs lines e none cut long =
       whole = e ∙ ap (λ r. header_bytes h ++ r) cut ∙ ap (λ g. header_bytes g ++ (pairs ++ lines)) is.0;
     }
 
+-- the lengths of its tables tell how many pairs and lines a file has
+pub opened_lengths : {bytes : List ℕ} {p q : ℕ} {pairs lines : List ℕ} → Opened bytes p q pairs lines → Opened bytes (length pairs / 4) (length lines / 8) pairs lines
+opened_lengths {bytes} {p} {q} {pairs} {lines} o =
+    let pair_count : length pairs / 4 ≡ p = omega (arith, o.pairs) in
+    let line_count : length lines / 8 ≡ q = omega (arith, o.lines) in rw (pair_count, line_count) o
+
 -- tables read whole are those of a file
-pub spelled : (bytes : List ℕ) (p q : ℕ) (pairs_table lines_table : List ℕ) → Opened bytes p q pairs_table lines_table
+pub spelled : {bytes : List ℕ} {p q : ℕ} {pairs_table lines_table : List ℕ} → Opened bytes p q pairs_table lines_table
     → (ps : List Pair) (pair_rest : List ℕ) → flat_map pair_bytes ps ++ pair_rest ≡ pairs_table → length pair_rest < 4
     → (ls : List LineRecord) (line_rest : List ℕ) → flat_map line_bytes ls ++ line_rest ≡ lines_table → length line_rest < 8
     → file_of ps ls ≡ bytes
 unfolding file_of
-spelled bytes p q pairs_table lines_table o ps pair_rest a pair_short ls line_rest b line_short =
+spelled {bytes} {p} {q} {pairs_table} {lines_table} o ps pair_rest a pair_short ls line_rest b line_short =
     let pairs = ap length a ∙ o.pairs in
     let lines = ap length b ∙ o.lines in
     let pair_count : length ps ≡ p = omega (arith, pairs, length-append (flat_map pair_bytes ps) pair_rest, length_pairs ps) in

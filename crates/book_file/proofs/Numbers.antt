@@ -1,17 +1,12 @@
 -- Numbers of two and four bytes, low byte first.
-use Rattle.std.proofs.Common.{◌≡◌, ℕ, ◌+◌, ◌*◌, ◌/◌, ◌%◌, ◌<◌, ◌≤◌, List, [], ◌∷◌, ◌++◌, length, get_or, drop, sym, ap, arith}
+use Rattle.std.proofs.Common.{◌≡◌, ℕ, ◌+◌, ◌*◌, ◌/◌, ◌%◌, ◌<◌, ◌≤◌, List, [], ◌∷◌, ◌++◌, length, get_or, drop, ap, arith}
 use Rattle.std.proofs.lemmas.List.{drop_more}
 use Rattle.book_file.specs.Layout.{two, four, field}
 
-pub two_is : (a b n : ℕ) → a < 256 → n ≡ a + b * 256 → two n ≡ a ∷ b ∷ []
+two_is : (a b n : ℕ) → a < 256 → n ≡ a + b * 256 → two n ≡ a ∷ b ∷ []
 two_is a b n h e =
     let low : n % 256 ≡ a = omega arith in
     let high : n / 256 ≡ b = omega arith in cc
-
-pub four_is : (a b c d n : ℕ) → a < 256 → b < 256 → c < 256 → n ≡ a + b * 256 + c * 65536 + d * 16777216 → four n ≡ a ∷ b ∷ c ∷ d ∷ []
-four_is a b c d n h k l e =
-    let low = two_is a b (n % 65536) h (omega arith) in
-    let high = two_is c d (n / 65536) l (omega arith) in cc
 
 -- a list of bytes
 abbrev pub Bytes : List ℕ → Type 0
@@ -43,8 +38,6 @@ bytes_of_two n h = let high : n / 256 % 256 ≡ n / 256 = omega arith in cc
 
 pub bytes_of_four : (n : ℕ) → n < 4294967296 → n % 256 ∷ n / 256 % 256 ∷ n / 65536 % 256 ∷ n / 16777216 % 256 ∷ [] ≡ four n
 bytes_of_four n h =
-    let second : n ≡ n % 256 + n / 256 * 256 = omega arith in
-    let third : n / 256 ≡ n / 256 % 256 + n / 65536 * 256 = (let e : n / 65536 ≡ n / 256 / 256 = omega arith in omega arith) in
-    let fourth : n / 65536 ≡ n / 65536 % 256 + n / 16777216 * 256 = (let e : n / 16777216 ≡ n / 65536 / 256 = omega arith in omega arith) in
-    let top : n / 16777216 % 256 ≡ n / 16777216 = (let e : n / 16777216 < 256 = omega arith in omega arith) in
-    sym (four_is (n % 256) (n / 256 % 256) (n / 65536 % 256) (n / 16777216 % 256) n (omega arith) (omega arith) (omega arith) (omega (arith, second, third, fourth, top)))
+    let first : n % 65536 % 256 ≡ n % 256 = omega arith in
+    let second : n % 65536 / 256 ≡ n / 256 % 256 = omega arith in
+    let top : n / 65536 / 256 ≡ n / 16777216 % 256 = omega arith in cc

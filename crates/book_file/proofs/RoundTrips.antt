@@ -18,7 +18,7 @@ use Rattle.book_file.specs.declared.decode.Fault.TheVariants.{Refused, Memory}
 use Rattle.book_file.specs.declared.records.LineRecord.{LineRecord}
 use Rattle.book_file.proofs.Files.{file_tells_content, files_are_accepted, length_file, encodes, within_limits}
 
-module _ (ps : List Pair) (ls : List LineRecord) (before after : List ℕ) (size : ℕ) (e : Encoded ps ls before after size) where
+module _ {ps : List Pair} {ls : List LineRecord} {before after : List ℕ} {size : ℕ} (e : Encoded ps ls before after size) where
   -- the part that encoding wrote is the file
   file_part : take size after ≡ file_of ps ls
   file_part = ap (take size) e.file ∙ written_front before (file_of ps ls) size (e.answer ∙ sym (length_file ps ls))
@@ -55,33 +55,32 @@ first_behind [] more e = refl
 first_behind ((true, x) ∷ rs) more e = absurd (grind arith)
 first_behind ((false, x) ∷ rs) more e = first_behind rs more e
 
-module _ (bytes before : List ℕ) where
-  -- what decoding declines
-  pub not_decoded : (fault : Fault) → Due (layout_fault bytes) fault → NoFile bytes before before fault
+-- what decoding declines
+pub not_decoded : (bytes before : List ℕ) (fault : Fault) → Due (layout_fault bytes) fault → NoFile bytes before before fault
+unfolding layout_fault copy_fault
+not_decoded bytes before (Refused r) due = (first_before (layout_faults bytes) ((ltb (length before) (length bytes), TooSmall) ∷ []) r due, refl)
+not_decoded bytes before Memory due = (due, refl)
+
+-- a content that was decoded, with its pairs and lines as slices
+module _ {bytes : List ℕ} {content : Content} {ps : List Pair} {ls : List LineRecord} (d : Decoded bytes content) (p : ps ≡ vec_items content.pairs) (l : ls ≡ vec_items content.lines) where
+  spelled : file_of ps ls ≡ bytes
+  spelled = ap (λ qs. file_of qs ls) p ∙ ap (file_of (vec_items content.pairs)) l ∙ d.spelled
+
+  long : size_of (length ps) (length ls) ≡ length bytes
+  long = sym (length_file ps ls) ∙ ap length spelled
+
+  -- only the buffer's size can be wrong
+  same_fault : (before : List ℕ) → copy_fault bytes (length before) ≡ encode_fault (length ps) (length ls) (length before)
   unfolding layout_fault copy_fault
-  not_decoded (Refused r) due = (first_before (layout_faults bytes) ((ltb (length before) (length bytes), TooSmall) ∷ []) r due, refl)
-  not_decoded Memory due = (due, refl)
+  same_fault before =
+      let within = within_limits ps ls (ap layout_fault spelled ∙ d.accepted) in
+      let pairs = le-ltb max_pairs (length ps) within.0 in
+      let lines = le-ltb max_lines (length ls) within.1 in
+      let copy = first_behind (layout_faults bytes) ((ltb (length before) (length bytes), TooSmall) ∷ []) d.accepted in
+      let size = ap (λ n. first_of ((ltb (length before) n, TooSmall) ∷ [])) (sym long) in cc
 
-  -- a content that was decoded, with its pairs and lines as slices
-  module _ (content : Content) (d : Decoded bytes content) (ps : List Pair) (ls : List LineRecord) (p : ps ≡ vec_items content.pairs) (l : ls ≡ vec_items content.lines) where
-    spelled : file_of ps ls ≡ bytes
-    spelled = ap (λ qs. file_of qs ls) p ∙ ap (file_of (vec_items content.pairs)) l ∙ d.spelled
+  pub not_encoded : {before after : List ℕ} {r : Refusal} → NotEncoded ps ls before after r → NoFile bytes before after (Refused r)
+  not_encoded {before} n = (same_fault before ∙ n.due, n.same)
 
-    long : size_of (length ps) (length ls) ≡ length bytes
-    long = sym (length_file ps ls) ∙ ap length spelled
-
-    -- only the buffer's size can be wrong
-    same_fault : copy_fault bytes (length before) ≡ encode_fault (length ps) (length ls) (length before)
-    unfolding layout_fault copy_fault
-    same_fault =
-        let within = within_limits ps ls (ap layout_fault spelled ∙ d.accepted) in
-        let pairs = le-ltb max_pairs (length ps) within.0 in
-        let lines = le-ltb max_lines (length ls) within.1 in
-        let copy = first_behind (layout_faults bytes) ((ltb (length before) (length bytes), TooSmall) ∷ []) d.accepted in
-        let size = ap (λ n. first_of ((ltb (length before) n, TooSmall) ∷ [])) (sym long) in cc
-
-    pub not_encoded : (after : List ℕ) (r : Refusal) → NotEncoded ps ls before after r → NoFile bytes before after (Refused r)
-    not_encoded after r n = (same_fault ∙ n.due, n.same)
-
-    pub encoded_back : (after : List ℕ) (size : ℕ) → Encoded ps ls before after size → SameFile bytes before after size
-    encoded_back after size e = record { accepted = same_fault ∙ e.accepted; answer = e.answer ∙ long; file = e.file ∙ ap (written before 0) spelled }
+  pub encoded_back : {before after : List ℕ} {size : ℕ} → Encoded ps ls before after size → SameFile bytes before after size
+  encoded_back {before} e = record { accepted = same_fault before ∙ e.accepted; answer = e.answer ∙ long; file = e.file ∙ ap (written before 0) spelled }

@@ -1,7 +1,7 @@
 -- Tables of records of one width.
-use Rattle.std.proofs.Common.{◌≡◌, ℕ, ◌+◌, ◌*◌, ◌<◌, ◌≤◌, List, [], ◌∷◌, ◌++◌, length, get_or, take, drop, sym, refl, ap, ◌∙◌, subst, append_assoc, mul-le-mul_left, mul-zero, mul-suc, add-one, arith, length-append}
+use Rattle.std.proofs.Common.{◌≡◌, ℕ, ◌*◌, List, [], ◌∷◌, ◌++◌, length, take, drop, sym, refl, ap, ◌∙◌, mul-zero, mul-suc, arith, length-append}
 use Rattle.std.specs.List.{flat_map}
-use Rattle.std.proofs.lemmas.List.{take_at, drop_at, take_more, flat_map_more}
+use Rattle.std.proofs.lemmas.List.{take_at, drop_at}
 
 -- two lists cut at the same length
 pub same_parts : {X : Type 0} (xs ys us vs : List X) → length xs ≡ length ys → xs ++ us ≡ ys ++ vs → (xs ≡ ys) × (us ≡ vs)
@@ -24,23 +24,3 @@ module _ {X : Type 0} (f : X → List ℕ) (w : ℕ) (fixed : (x : X) → length
       let p = same_parts (f x) (f y) (flat_map f xs) (flat_map f ys) (fixed x ∙ sym (fixed y)) e in
       let head = one x y p.0 in
       let tail = same_table one xs ys (omega arith) p.1 in cc
-
--- a record taken from the front of what is left goes behind those already taken
-pub taken_more : {X : Type 0} (f : X → List ℕ) (xs ys : List X) (x : X) (rest after table : List ℕ) → flat_map f xs ++ rest ≡ table → rest ≡ f x ++ after → ys ≡ xs ++ x ∷ [] → flat_map f ys ++ after ≡ table
-taken_more f xs ys x rest after table e cut pushed =
-    ap (λ zs. flat_map f zs ++ after) pushed ∙ ap (λ t. t ++ after) (sym (flat_map_more f [] xs x)) ∙ append_assoc (flat_map f xs) (f x) after ∙ ap (λ t. flat_map f xs ++ t) (sym cut) ∙ e
-
--- what is left falls with each record taken
-pub taken_less : {X : Type 0} (f : X → List ℕ) (w : ℕ) → ((x : X) → length (f x) ≡ w) → 0 < w → (x : X) (rest after : List ℕ) → rest ≡ f x ++ after → length after < length rest
-taken_less f w fixed some x rest after cut = omega (arith, ap length cut, length-append (f x) after, fixed x)
-
--- one record more of those to write
-pub table_next : {X : Type 0} (f : X → List ℕ) (xs : List X) (i : ℕ) (x : X) → i < length xs → x ≡ get_or xs i x → flat_map f (take i xs) ++ f x ≡ flat_map f (take (i + 1) xs)
-table_next f xs i x h read =
-    flat_map_more f [] (take i xs) x ∙ ap (flat_map f) (ap (λ y. take i xs ++ y ∷ []) read ∙ sym (take_more xs i x h))
-
-pub width_more : (w i : ℕ) → w * (i + 1) ≡ w * i + w
-width_more w i = ap (λ n. w * n) (add-one i) ∙ mul-suc w i
-
-pub width_room : (w i n : ℕ) → i < n → w * i + w ≤ w * n
-width_room w i n h = subst (λ m. m ≤ w * n) (width_more w i) (mul-le-mul_left w (omega arith))

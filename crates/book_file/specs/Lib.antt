@@ -2,3 +2,4 @@ pub mod Contents
 pub mod Layout
 pub mod Laws
 pub mod RoundTrips
+pub mod Writing

@@ -1,5 +1,5 @@
 // A book file taken apart: its header checked, then its records.
-ghost use Rattle.std.specs.Prelude.{◌≡◌, ℕ, ◌<◌, List, ◌++◌, length, IfOk, Some, None, MatchResult};
+ghost use Rattle.std.specs.Prelude.{◌≡◌, ℕ, ◌/◌, ◌<◌, List, ◌++◌, length, IfOk, Some, None, MatchResult};
 ghost use Rattle.std.specs.List.{flat_map};
 ghost use Rattle.grammar.specs.Refusals.{first_of};
 ghost use Rattle.book_file.specs.Contents.{Opened, Decoded, Due};
@@ -15,8 +15,6 @@ use std::alloc::{AllocError, Global};
 // The two tables of a file whose header is sound, still as bytes.
 #[derive(Clone, Copy)]
 pub struct Tables<'a> {
-    pub pair_count: u16,
-    pub line_count: u16,
     pub pairs: &'a [u8],
     pub lines: &'a [u8],
 }
@@ -29,12 +27,13 @@ pub struct Content {
 }
 
 // Why no content was made: a refusal, or want of memory.
-#[derive(Clone, Copy)]
+#[derive(Clone, Copy, PartialEq, Eq, Debug)]
 pub enum Fault {
     Refused(Refusal),
     Memory,
 }
 
+// Both by hand, since a clause learns from `from_gives` which fault a `?` makes.
 impl From<Refusal> for Fault {
     ghost from_gives = { λ e r. r ≡ refused e };
 
@@ -61,14 +60,14 @@ fn check(header: &Header, len: usize) -> Result<(), Refusal>
     if header.lines > MAX_LINES {
         return Err(Refusal::BadHeader { place: 6 });
     }
-    if header.pair_table != 16 {
+    let sound = Header::of_file(header.pairs, header.lines);
+    if header.pair_table != sound.pair_table {
         return Err(Refusal::BadHeader { place: 8 });
     }
-    let line_table = 16 + 4 * header.pairs as u32;
-    if header.line_table != line_table {
+    if header.line_table != sound.line_table {
         return Err(Refusal::BadHeader { place: 12 });
     }
-    if header.size != line_table + 8 * header.lines as u32 {
+    if header.size != sound.size {
         return Err(Refusal::BadHeader { place: 0 });
     }
     let size = header.size as usize;
@@ -83,19 +82,14 @@ fn check(header: &Header, len: usize) -> Result<(), Refusal>
 
 // The tables of a book file, or why the bytes are none.
 pub fn open(bytes: &[u8]) -> Result<Tables<'_>, Refusal>
-    ensures { MatchResult result (λ t. Opened bytes.now t.pair_count t.line_count t.pairs.now t.lines.now) (λ e. layout_fault bytes.now ≡ Some e) }
+    ensures { MatchResult result (λ t. Opened bytes.now (length t.pairs.now / 4) (length t.lines.now / 8) t.pairs.now t.lines.now) (λ e. layout_fault bytes.now ≡ Some e) }
 {
     let Some((header, rest)) = Header::parse(bytes) else {
         return Err(Refusal::FileShort { place: bytes.len() });
     };
     check(&header, bytes.len())?;
     let (pairs, lines) = rest.split_at(4 * header.pairs as usize);
-    Ok(Tables {
-        pair_count: header.pairs,
-        line_count: header.lines,
-        pairs,
-        lines,
-    })
+    Ok(Tables { pairs, lines })
 }
 
 // The records of a table, in order, up to what is too short for one more.
@@ -104,9 +98,9 @@ fn records<R: Record>(heap: Global, table: &[u8]) -> Result<Vec<R>, AllocError>
 {
     let mut found = Vec::new(heap);
     let mut rest = table;
-    while let Some(next) = R::parse(rest) {
-        found.push(next.0)?;
-        rest = next.1;
+    while let Some((record, tail)) = R::parse(rest) {
+        found.push(record)?;
+        rest = tail;
     }
     Ok(found)
 }

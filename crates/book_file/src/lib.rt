@@ -6,3 +6,4 @@ pub mod encode;
 pub mod laws;
 pub mod records;
 pub mod round_trip;
+mod writer;

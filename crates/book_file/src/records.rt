@@ -1,9 +1,10 @@
 // The records of a book file: each is taken from the front of its bytes with the rest handed on, and written back.
-ghost use Rattle.std.specs.Prelude.{◌≡◌, ℕ, ◌+◌, ◌<◌, ◌≤◌, List, ◌++◌, length, MatchOption};
-ghost use Rattle.grammar.specs.Buffers.{written};
-ghost use Rattle.book_file.specs.Layout.{two, four, header_bytes, pair_bytes, line_bytes};
+ghost use Rattle.std.specs.Prelude.{◌≡◌, ℕ, ◌<◌, List, ◌++◌, length, MatchOption};
+ghost use Rattle.book_file.specs.Layout.{header_of, header_bytes, pair_bytes, line_bytes};
+ghost use Rattle.book_file.specs.Writing.{Room, Put};
 ghost use Rattle.std.proofs.Common.{rules};
 
+use super::writer::Writer;
 use grammar::strands::{Pair, Strand};
 
 // A record of a fixed width.
@@ -17,33 +18,14 @@ pub(crate) trait Record: Copy {
     fn parse(from: &[u8]) -> Option<(Self, &[u8])>
         ensures { MatchOption result (length from.now < width) (λ found. from.now ≡ bytes found.0 ++ found.1.now) };
 
-    // Writes the record from the place on, and answers the place behind it.
-    fn write(self, buffer: &mut [u8], place: usize) -> usize
-        requires { place + width ≤ length buffer.old }
-        ensures next { result ≡ place + width }
-        ensures after { buffer.new ≡ written buffer.old place (bytes self) };
+    // Writes the record's bytes.
+    fn write(self, out: &mut Writer<'_>)
+        requires { Room out.old width }
+        ensures { Put out.old out.new (bytes self) };
 
     ghost fixed: { (record' : Self) → length (bytes record') ≡ width };
 
     ghost some: { 0 < width };
-}
-
-fn write_two(buffer: &mut [u8], place: usize, n: u16) -> usize
-    requires { place + 2 ≤ length buffer.old }
-    ensures next { result ≡ place + 2 }
-    ensures after { buffer.new ≡ written buffer.old place (two n) }
-{
-    buffer[place..place + 2].copy_from_slice(&n.to_le_bytes());
-    place + 2
-}
-
-fn write_four(buffer: &mut [u8], place: usize, n: u32) -> usize
-    requires { place + 4 ≤ length buffer.old }
-    ensures next { result ≡ place + 4 }
-    ensures after { buffer.new ≡ written buffer.old place (four n) }
-{
-    buffer[place..place + 4].copy_from_slice(&n.to_le_bytes());
-    place + 4
 }
 
 // What a file says of itself, in the order of its fields.
@@ -54,6 +36,22 @@ pub(crate) struct Header {
     pub lines: u16,
     pub pair_table: u32,
     pub line_table: u32,
+}
+
+impl Header {
+    // The header of the file of so many pairs and lines.
+    pub fn of_file(pairs: u16, lines: u16) -> Header
+        ensures { result ≡ header_of pairs lines }
+    {
+        let line_table = 16 + 4 * pairs as u32;
+        Header {
+            size: line_table + 8 * lines as u32,
+            pairs,
+            lines,
+            pair_table: 16,
+            line_table,
+        }
+    }
 }
 
 impl Record for Header {
@@ -98,12 +96,12 @@ impl Record for Header {
         Some((header, rest))
     }
 
-    fn write(self, buffer: &mut [u8], place: usize) -> usize {
-        let place = write_four(buffer, place, self.size);
-        let place = write_two(buffer, place, self.pairs);
-        let place = write_two(buffer, place, self.lines);
-        let place = write_four(buffer, place, self.pair_table);
-        write_four(buffer, place, self.line_table)
+    fn write(self, out: &mut Writer<'_>) {
+        out.put(&self.size.to_le_bytes());
+        out.put(&self.pairs.to_le_bytes());
+        out.put(&self.lines.to_le_bytes());
+        out.put(&self.pair_table.to_le_bytes());
+        out.put(&self.line_table.to_le_bytes());
     }
 }
 
@@ -127,9 +125,9 @@ impl Record for Pair {
         Some((pair, rest))
     }
 
-    fn write(self, buffer: &mut [u8], place: usize) -> usize {
-        let place = write_two(buffer, place, self.left.0);
-        write_two(buffer, place, self.right.0)
+    fn write(self, out: &mut Writer<'_>) {
+        out.put(&self.left.0.to_le_bytes());
+        out.put(&self.right.0.to_le_bytes());
     }
 }
 
@@ -162,9 +160,9 @@ impl Record for LineRecord {
         Some((line, rest))
     }
 
-    fn write(self, buffer: &mut [u8], place: usize) -> usize {
-        let place = write_two(buffer, place, self.number);
-        let place = write_two(buffer, place, self.strand.0);
-        write_four(buffer, place, self.length)
+    fn write(self, out: &mut Writer<'_>) {
+        out.put(&self.number.to_le_bytes());
+        out.put(&self.strand.0.to_le_bytes());
+        out.put(&self.length.to_le_bytes());
     }
 }

@@ -1,5 +1,5 @@
 // Decoding and encoding undo each other: the two calls made one after the other, with what must come back.
-ghost use Rattle.std.specs.Result.{MatchResult};
+ghost use Rattle.std.specs.Prelude.{MatchResult};
 ghost use Rattle.book_file.specs.RoundTrips.{SameContent, NoContent, SameFile, NoFile};
 
 use super::decode::{Content, Fault, decode};
@@ -18,7 +18,7 @@ pub fn decode_encoded(
     ensures { MatchResult result (SameContent pairs.now lines.now buffer.old buffer.new) (NoContent pairs.now lines.now buffer.old buffer.new) }
 {
     let size = encode(pairs, lines, buffer)?;
-    decode(heap, &buffer[0..size])
+    decode(heap, &buffer[..size])
 }
 
 // Decodes the bytes and encodes the content to the buffer: the same bytes come back.
@@ -26,5 +26,5 @@ pub fn encode_decoded(heap: Global, bytes: &[u8], buffer: &mut [u8]) -> Result<u
     ensures { MatchResult result (SameFile bytes.now buffer.old buffer.new) (NoFile bytes.now buffer.old buffer.new) }
 {
     let content = decode(heap, bytes)?;
-    Ok(encode(content.pairs.as_slice(), content.lines.as_slice(), buffer)?)
+    Ok(encode(&content.pairs, &content.lines, buffer)?)
 }

@@ -6,7 +6,6 @@ use book_file::round_trip::{decode_encoded, encode_decoded};
 use console::listing::listing;
 use grammar::refusals::Refusal;
 use grammar::strands::{Pair, Strand};
-use std::alloc::Global;
 use std::process::Abort;
 use std::test::Fail;
 
@@ -33,93 +32,65 @@ fn sample_pairs() -> [Pair; 3] {
     [pair(65, 66), pair(256, 256), pair(257, 65)]
 }
 
-fn tells(rt: &impl Abort, heap: Global, file: &[u8], expected: &str) -> Result<(), Fail> {
-    let text = listing(heap, file)?;
+fn tells<R: Abort + AllocGlobal>(rt: &R, file: &[u8], expected: &str) -> Result<(), Fail> {
+    let text = listing(rt.alloc(), file)?;
     assert_eq!(rt; text.as_str(), expected);
     Ok(())
 }
 
 #[test]
 fn every_cut_is_short_at_its_byte_count(rt: HostRuntime) -> Result<(), Fail> {
-    let heap = rt.alloc();
-    let sample: &[u8] = SAMPLE;
-    for cut in 0..sample.len() {
-        let expected = format!(in heap; "no 2 16 {cut}\n")?;
-        tells(&rt, heap, &sample[0..cut], expected.as_str())?;
+    for cut in 0..SAMPLE.len() {
+        let expected = format!(in rt.alloc(); "no 2 16 {cut}\n")?;
+        tells(&rt, &SAMPLE[..cut], expected.as_str())?;
     }
-    tells(&rt, heap, sample, WHOLE)
+    tells(&rt, SAMPLE, WHOLE)
 }
 
-// Bytes of the sample replaced, from an offset on, and what is told then.
-#[derive(Clone, Copy)]
-struct Damage {
-    at: usize,
-    low: u8,
-    high: u8,
-    told: &'static str,
-}
-
-const fn damaged(at: usize, low: u8, high: u8, told: &'static str) -> Damage {
-    Damage {
-        at,
-        low,
-        high,
-        told,
-    }
-}
-
+// Two bytes of the sample replaced, from an offset on, and what is told then.
 #[test]
 fn each_wrong_field_is_told_at_its_offset(rt: HostRuntime) -> Result<(), Fail> {
-    let heap = rt.alloc();
     let cases = [
-        damaged(4, 0x01, 0x07, "no 2 17 4\n"),
-        damaged(4, 0x00, 0x07, "no 2 17 12\n"),
-        damaged(6, 0x01, 0x04, "no 2 17 6\n"),
-        damaged(6, 0x00, 0x04, "no 2 17 0\n"),
-        damaged(8, 0x14, 0x00, "no 2 17 8\n"),
-        damaged(10, 0x01, 0x00, "no 2 17 8\n"),
-        damaged(12, 0x1D, 0x00, "no 2 17 12\n"),
-        damaged(14, 0x00, 0x01, "no 2 17 12\n"),
-        damaged(0, 0x25, 0x00, "no 2 17 0\n"),
-        damaged(2, 0x00, 0x80, "no 2 17 0\n"),
-        damaged(
+        (4, [0x01, 0x07], "no 2 17 4\n"),
+        (4, [0x00, 0x07], "no 2 17 12\n"),
+        (6, [0x01, 0x04], "no 2 17 6\n"),
+        (6, [0x00, 0x04], "no 2 17 0\n"),
+        (8, [0x14, 0x00], "no 2 17 8\n"),
+        (10, [0x01, 0x00], "no 2 17 8\n"),
+        (12, [0x1D, 0x00], "no 2 17 12\n"),
+        (14, [0x00, 0x01], "no 2 17 12\n"),
+        (0, [0x25, 0x00], "no 2 17 0\n"),
+        (2, [0x00, 0x80], "no 2 17 0\n"),
+        (
             28,
-            0xFF,
-            0xFF,
+            [0xFF, 0xFF],
             "pairs 3\nlines 1\nline 65535 strand 258 length 5\n",
         ),
-        damaged(
+        (
             34,
-            0xFF,
-            0xFF,
+            [0xFF, 0xFF],
             "pairs 3\nlines 1\nline 7 strand 258 length 4294901765\n",
         ),
     ];
-    for case in &cases {
-        let mut file = Vec::from_slice(heap, SAMPLE)?;
-        assert!(rt; file.len() == 36);
-        assert!(rt; case.at < 35);
-        file[case.at] = case.low;
-        file[case.at + 1] = case.high;
-        tells(&rt, heap, file.as_slice(), case.told)?;
+    for (at, bytes, told) in cases {
+        assert!(rt; at < 35);
+        let mut file = *SAMPLE;
+        file[at..at + 2].copy_from_slice(&bytes);
+        tells(&rt, &file, told)?;
     }
     Ok(())
 }
 
 #[test]
 fn one_byte_more_is_told_at_the_size(rt: HostRuntime) -> Result<(), Fail> {
-    let heap = rt.alloc();
-    let mut file = Vec::from_slice(heap, SAMPLE)?;
+    let mut file = Vec::from_slice(rt.alloc(), SAMPLE)?;
     file.push(0)?;
-    tells(&rt, heap, file.as_slice(), "no 2 17 36\n")
+    tells(&rt, &file, "no 2 17 36\n")
 }
 
 #[test]
 fn the_sample_is_spelled_by_its_content(rt: HostRuntime) -> Result<(), Fail> {
-    let heap = rt.alloc();
-    let Ok(content) = decode(heap, SAMPLE) else {
-        return Err(Fail::new("refused"));
-    };
+    let content = decode(rt.alloc(), SAMPLE)?;
     assert_eq!(rt; content.pairs.as_slice(), sample_pairs().as_slice());
     assert_eq!(rt; content.lines.as_slice(), LINES.as_slice());
     Ok(())
@@ -143,15 +114,10 @@ fn there_and_back(rt: HostRuntime) -> Result<(), Fail> {
     let heap = rt.alloc();
     let pairs = sample_pairs();
     let mut buffer = [0x2Eu8; 36];
-    let Ok(content) = decode_encoded(heap, &pairs, &LINES, &mut buffer) else {
-        return Err(Fail::new("not decoded"));
-    };
+    let content = decode_encoded(heap, &pairs, &LINES, &mut buffer)?;
     assert_eq!(rt; content.pairs.as_slice(), pairs.as_slice());
     let mut copy = [0x2Eu8; 36];
-    let Ok(size) = encode_decoded(heap, SAMPLE, &mut copy) else {
-        return Err(Fail::new("not encoded"));
-    };
-    assert_eq!(rt; size, 36);
+    assert_eq!(rt; encode_decoded(heap, SAMPLE, &mut copy)?, 36);
     assert_eq!(rt; copy.as_slice(), SAMPLE.as_slice());
     Ok(())
 }
@@ -160,18 +126,15 @@ fn there_and_back(rt: HostRuntime) -> Result<(), Fail> {
 #[test]
 fn the_largest_file_is_accepted(rt: HostRuntime) -> Result<(), Fail> {
     let heap = rt.alloc();
-    let pairs = vec![in heap; Pair {
-        left: Strand(65535),
-        right: Strand(256)
-    }; 1793]?;
+    let pairs = vec![in heap; pair(65535, 256); 1793]?;
     let lines = vec![in heap; LineRecord {
         number: 7,
         strand: Strand(0),
         length: 65536
     }; 1025]?;
     let mut buffer = vec![in heap; 0u8; 15376]?;
-    let most_pairs = &pairs[0..1792];
-    let most_lines = &lines[0..1024];
+    let most_pairs = &pairs[..1792];
+    let most_lines = &lines[..1024];
     assert_eq!(rt;
         encode(&pairs, most_lines, &mut buffer),
         Err(Refusal::BadHeader { place: 4 })
@@ -181,9 +144,7 @@ fn the_largest_file_is_accepted(rt: HostRuntime) -> Result<(), Fail> {
         Err(Refusal::BadHeader { place: 6 })
     );
     assert_eq!(rt; encode(most_pairs, most_lines, &mut buffer), Ok(15376));
-    let Ok(content) = decode(heap, &buffer) else {
-        return Err(Fail::new("refused"));
-    };
+    let content = decode(heap, &buffer)?;
     assert_eq!(rt; content.pairs.as_slice(), most_pairs);
     assert_eq!(rt; content.lines.as_slice(), most_lines);
     let text = listing(heap, &buffer)?;

@@ -1,8 +1,9 @@
 // Tells what the book file `survey.book` in the current folder holds, or why it is refused.
 #![tactic(auto)]
 
+use console::listing::listing;
 use grammar::limits::MAX_FILE;
-use std::io::{Read, Write};
+use std::io::{Print, Read};
 use std::{fs, io};
 
 // The file's bytes, up to one more than a book file can have; a missing file counts as one of no bytes.
@@ -12,21 +13,14 @@ fn read_survey(rt: &HostRuntime, path: &str) -> io::Result<Vec<u8>> {
         Ok(file) => {
             file.take(MAX_FILE as u64 + 1).read_to_end(&mut bytes)?;
         }
-        Err(error) => {
-            if error.kind() != io::ErrorKind::NotFound {
-                return Err(error);
-            }
-        }
+        Err(error) if error.kind() == io::ErrorKind::NotFound => {}
+        Err(error) => return Err(error),
     }
     Ok(bytes)
 }
 
-fn run(rt: &HostRuntime) -> io::Result<()> {
-    let file = read_survey(rt, "survey.book")?;
-    let text = console::listing::listing(rt.alloc(), file.as_slice())?;
-    rt.stdout().write_all(text.as_bytes())
-}
-
 fn main(rt: HostRuntime) -> io::Result<()> {
-    run(&rt)
+    let file = read_survey(&rt, "survey.book")?;
+    let text = listing(rt.alloc(), &file)?;
+    rt.print(text)
 }

@@ -4,12 +4,7 @@ use Rattle.book_file.proofs.decode.decode.Goals as goal
 
 pub returns : goal.returns
 returns c =
-    let t = c.in_ok-tables.tables in
     let opened = c.in_ok-tables.ensures in
     let ps = c.in_ok-pairs.ensures in
     let ls = c.in_ok-lines.ensures in
-    record {
-      accepted = opened.accepted;
-      spelled = spelled c.args.bytes.now t.pair_count t.line_count t.pairs.now t.lines.now opened
-          (vec_items c.in_ok-pairs.pairs) ps.0 ps.1 ps.2 (vec_items c.in_ok-lines.lines) ls.0 ls.1 ls.2;
-    }
+    record { accepted = opened.accepted; spelled = spelled opened (vec_items c.in_ok-pairs.pairs) ps.0 ps.1 ps.2 (vec_items c.in_ok-lines.lines) ls.0 ls.1 ls.2 }

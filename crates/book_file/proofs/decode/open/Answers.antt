@@ -1,6 +1,6 @@
 use Rattle.std.proofs.Common.{◌∙◌, arith, rules}
 use Rattle.std.proofs.lemmas.Result.{err_from_is_err_and}
-use Rattle.book_file.proofs.Files.{header_faults_lem, opened, too_short}
+use Rattle.book_file.proofs.Files.{header_faults_lem, opened, opened_lengths, too_short}
 use Rattle.book_file.proofs.decode.open.Goals as goal
 
 pub returns-in_default : goal.returns-in_default
@@ -14,4 +14,4 @@ returns-in_err-check c =
 pub returns : goal.returns
 returns c =
     let cut = c.split_at.ensures.by_index.0 in
-    opened c.args.bytes.now c.in-Some.header c.in-Some.rest.now _ _ c.in-Some.ensures c.in_ok-check.ensures cut (omega (arith, c.split_at.ensures.front_len))
+    opened_lengths (opened c.args.bytes.now c.in-Some.header c.in-Some.rest.now _ _ c.in-Some.ensures c.in_ok-check.ensures cut (omega (arith, c.split_at.ensures.front_len)))

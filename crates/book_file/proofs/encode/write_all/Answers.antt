@@ -1,38 +1,26 @@
-use Rattle.std.proofs.Common.{◌≡◌, ◌+◌, ◌*◌, length, take, sym, ap, ◌∙◌, mul-zero, arith, take_all}
-use Rattle.std.specs.List.{flat_map}
-use Rattle.std.proofs.lemmas.List.{length-take-le}
-use Rattle.grammar.specs.Buffers.{written}
-use Rattle.grammar.proofs.Writing.{then_written, written_none}
-use Rattle.book_file.proofs.Tables.{length_table, table_next, width_more, width_room}
+use Rattle.std.proofs.Common.{[], get_or, take, arith}
+use Rattle.std.proofs.lemmas.List.{take_more, flat_map_more}
+use Rattle.std.proofs.lemmas.List.Folds.{length-flat_map-take}
+use Rattle.book_file.proofs.Putting.{put_none, put_more}
+use Rattle.book_file.proofs.Tables.{length_table}
 use Rattle.book_file.proofs.encode.write_all.Goals as goal
 
 pub loop-record-init : goal.loop-record-init
-loop-record-init g c = (omega arith, omega (arith, mul-zero g.R.Record.width), sym (written_none c.args.buffer.now c.args.place))
+loop-record-init g c = put_none c.args.out.now
 
-pub write-next-requires : goal.write-next-requires
-write-next-requires g c = omega (arith, c.loop-record.invariant.1, width_room g.R.Record.width c.loop-record.record-index (length c.args.records.now) c.loop-record-test.true)
+pub write-requires : goal.write-requires
+write-requires g c =
+    let r = g.R.Record in
+    let rs = c.args.records.now in
+    let i = c.loop-record.record-index in
+    let x = c.record-item.result in
+    let fits = length-flat_map-take r.bytes rs i x c.loop-record-test.true in
+    omega (arith, length_table r.bytes r.width g.met.R.Record.fixed rs, g.met.R.Record.fixed (get_or rs i x))
 
 pub loop-record-preserved : goal.loop-record-preserved
 loop-record-preserved g c =
-    let w = g.R.Record.width in
     let bytes = g.R.Record.bytes in
     let rs = c.args.records.now in
     let i = c.loop-record.record-index in
-    let inv = c.loop-record.invariant in
-    let long : length (flat_map bytes (take i rs)) ≡ w * i = length_table bytes w g.met.R.Record.fixed (take i rs) ∙ ap (λ n. w * n) (length-take-le i rs inv.0) in
-    let room = width_room w i (length rs) c.loop-record-test.true in
-    let both = then_written c.args.buffer.now (flat_map bytes (take i rs)) (bytes c.record-item.result) (omega arith) (omega (arith, long, inv.1)) inv.2 c.write-next.ensures.after in (
-      omega (arith, c.loop-record-test.true),
-      omega (arith, c.write-next.ensures.next, inv.1, width_more w i),
-      both ∙ ap (written c.args.buffer.now c.args.place) (table_next bytes rs i c.record-item.result c.loop-record-test.true c.record-item.is),
-    )
-
-pub returns : goal.returns
-returns g c =
-    let inv = c.loop-record.invariant in
-    let rs = c.args.records.now in
-    let end : c.loop-record.record-index ≡ length rs = omega (arith, inv.0, c.loop-record-test.false) in
-    record {
-      next = inv.1 ∙ ap (λ n. c.args.place + g.R.Record.width * n) end;
-      after = inv.2 ∙ ap (λ xs. written c.args.buffer.now c.args.place (flat_map g.R.Record.bytes xs)) (take_all _ _ c.loop-record-test.false);
-    }
+    let x = c.record-item.result in
+    rw (take_more rs i x c.loop-record-test.true, ← flat_map_more bytes [] (take i rs) (get_or rs i x), ← c.record-item.is) (put_more c.loop-record.invariant c.write.ensures)

@@ -5,5 +5,4 @@ use Rattle.book_file.proofs.round_trip.decode_encoded.Goals as goal
 pub returns : goal.returns
 returns c =
     let after = c.encode.new.buffer in
-    decoded_back c.args.pairs.now c.args.lines.now c.args.buffer.now after c.in_ok-size.size c.in_ok-size.ensures
-    _ (ap (λ n. take n after) (omega arith)) c.decode.result c.decode.ensures
+    decoded_back c.in_ok-size.ensures _ (ap (λ n. take n after) (omega arith)) c.decode.result c.decode.ensures

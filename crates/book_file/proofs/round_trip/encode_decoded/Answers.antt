@@ -1,4 +1,3 @@
-use Rattle.std.proofs.Common.{arith}
 use Rattle.std.proofs.lemmas.Result.{err_from_is_err_and}
 use Rattle.book_file.proofs.RoundTrips.{not_decoded, not_encoded, encoded_back}
 use Rattle.book_file.proofs.round_trip.encode_decoded.Goals as goal
@@ -11,13 +10,7 @@ returns-in_err-content c =
 pub returns-in_err-encode : goal.returns-in_err-encode
 returns-in_err-encode c =
     let p = err_from_is_err_and c.from_residual-in_err-encode.result c.from_residual-in_err-encode.ensures.1 in
-    rw (p.1, p.2)
-    (not_encoded c.args.bytes.now c.args.buffer.now c.in_ok-content.content c.in_ok-content.ensures _ _ c.as_slice.ensures.value c.as_slice-2.ensures.value
-    c.encode.new.buffer _ c.in_err-encode.ensures)
+    rw (p.1, p.2) (not_encoded c.in_ok-content.ensures c.deref.ensures.value c.deref-2.ensures.value c.in_err-encode.ensures)
 
 pub returns : goal.returns
-returns c =
-    let same =
-    encoded_back c.args.bytes.now c.args.buffer.now c.in_ok-content.content c.in_ok-content.ensures _ _ c.as_slice.ensures.value c.as_slice-2.ensures.value
-    c.encode.new.buffer _ c.in_ok-encode.ensures in
-    record { accepted = same.accepted; answer = omega (arith, same.answer); file = same.file }
+returns c = encoded_back c.in_ok-content.ensures c.deref.ensures.value c.deref-2.ensures.value c.in_ok-encode.ensures

@@ -1,20 +1,13 @@
-use Rattle.std.proofs.Common.{◌++◌, arith}
-use Rattle.grammar.proofs.Writing.{then_written}
-use Rattle.book_file.specs.Layout.{two, four}
+use Rattle.std.proofs.Common.{arith}
+use Rattle.book_file.proofs.Putting.{put_more, put_two, put_four}
 use Rattle.book_file.proofs.records.HeaderRecord.write.Goals as goal
 
 pub returns : goal.returns
 returns c =
     let h = c.args.self in
-    let before = c.args.buffer.now in
-    let size = c.write_four-place.ensures in
-    let pairs = c.write_two-place.ensures in
-    let lines = c.write_two-place-2.ensures in
-    let pair_table = c.write_four-place-2.ensures in
-    let line_table = c.write_four.ensures in
-    let to_pairs = four h.size ++ two h.pairs in
-    let to_lines = to_pairs ++ two h.lines in
-    let two_fields = then_written before (four h.size) (two h.pairs) (omega arith) (omega arith) size.after pairs.after in
-    let three_fields = then_written before to_pairs (two h.lines) (omega arith) (omega arith) two_fields lines.after in
-    let four_fields = then_written before to_lines (four h.pair_table) (omega arith) (omega arith) three_fields pair_table.after in
-    record { next = omega arith; after = then_written before (to_lines ++ four h.pair_table) (four h.line_table) (omega arith) (omega arith) four_fields line_table.after }
+    let size = put_four c.put.ensures h.size (omega arith) c.to_le_bytes.ensures in
+    let pairs = put_two c.put-2.ensures h.pairs (omega arith) c.to_le_bytes-2.ensures in
+    let lines = put_two c.put-3.ensures h.lines (omega arith) c.to_le_bytes-3.ensures in
+    let pair_table = put_four c.put-4.ensures h.pair_table (omega arith) c.to_le_bytes-4.ensures in
+    let line_table = put_four c.put-5.ensures h.line_table (omega arith) c.to_le_bytes-5.ensures in
+    put_more (put_more (put_more (put_more size pairs) lines) pair_table) line_table

@@ -1,11 +1,10 @@
 use Rattle.std.proofs.Common.{arith}
-use Rattle.grammar.proofs.Writing.{then_written}
-use Rattle.book_file.specs.Layout.{two}
+use Rattle.book_file.proofs.Putting.{put_more, put_two}
 use Rattle.book_file.proofs.records.PairRecord.write.Goals as goal
 
 pub returns : goal.returns
 returns c =
     let pair = c.args.self in
-    let left = c.write_two-place.ensures in
-    let right = c.write_two.ensures in
-    record { next = omega arith; after = then_written c.args.buffer.now (two pair.left.0) (two pair.right.0) (omega arith) (omega arith) left.after right.after }
+    let left = put_two c.put.ensures pair.left.0 (omega arith) c.to_le_bytes.ensures in
+    let right = put_two c.put-2.ensures pair.right.0 (omega arith) c.to_le_bytes-2.ensures in
+    put_more left right
