@@ -1,8 +1,7 @@
 -- The laws of a board that grows.
-use Rattle.std.proofs.Common.{◌≡◌, ℕ, ◌+◌, ◌<◌, ◌≤◌, Bool, true, false, ◌&&◌, ◌||◌, eqb, ltb, leb, is_some, Some, None, Err, Option, Result, sym, refl, ap, ◌∙◌, subst, ⊎_elim, arith}
+use Rattle.std.proofs.Common.{◌≡◌, ℕ, ◌+◌, ◌<◌, Bool, true, false, ◌&&◌, ◌||◌, eqb, ltb, leb, is_some, Some, None, Err, Option, Result, sym, refl, ap, ◌∙◌, subst, ⊎_elim, arith}
 use Rattle.std.proofs.lemmas.Bool.Decides.{nat_tests, eqb_tells}
 use Rattle.std.proofs.lemmas.Bool.{cases_order, cond-true, cond-false, eq-eqb, ne_eqb}
-use Rattle.grammar.specs.Limits.{max_strands}
 use Rattle.grammar.specs.declared.refusals.Refusal.{Refusal}
 use Rattle.board.specs.declared.rectangles.Rectangle.{Rectangle}
 use Rattle.board.specs.declared.calls.Call.TheVariants.{AskSize, Widen, Put, Locate, First}
@@ -13,16 +12,8 @@ use Rattle.board.specs.Serving.{Serves}
 use Rattle.board.specs.Laws.{CallsKeepProper, CallsKeepPoints, CallsKeepCapacity, RefusalsChangeNothing, PutCountsOneMore, WidenThenPut, OpenedAreEmpty, FirstAfterWiden, FirstAfterPut, FirstThenTheRest, moved_rectangle}
 use Rattle.board.specs.Meaning.{Meaning, Proper, place_at, stands, count, moved, moved_point, widened, placed, stands_inside, hits}
 use Rattle.board.specs.Answering.{settled, kept, widen_refusal, put_refusal}
-use Rattle.board.proofs.Meanings.{some_moved, some_pair, count-widened, count-placed, widened_proper, placed_proper, may_put}
+use Rattle.board.proofs.Meanings.{some_moved, some_pair, count-widened, count-placed, widened_proper, placed_proper, put_allowed, wide, free}
 use Rattle.board.proofs.Least.{first_more, same_least}
-
--- what a widening that is accepted says of its places
-wide : (m : Meaning) (a b : ℕ) → widen_refusal m a b ≡ None → (m.rows < max_strands) × (m.columns < max_strands) × (a ≤ m.rows) × (b ≤ m.columns)
-wide m a b e = (grind (arith, nat_tests, e), grind (arith, nat_tests, e), grind (arith, nat_tests, e), grind (arith, nat_tests, e))
-
--- what a put that is accepted says of its point
-free : (m : Meaning) (row column label : ℕ) → put_refusal m row column label ≡ None → (row < m.rows) × (column < m.columns) × (label < max_strands) × (stands m label ≡ false) × (count m < m.capacity)
-free m row column label e = (grind (arith, nat_tests, e), grind (arith, nat_tests, e), grind (arith, nat_tests, e), grind (arith, nat_tests, e), grind (arith, nat_tests, e))
 
 kept_is : (P : Meaning → Type 0) (refusal : Option Refusal) (m changed : Meaning) → (refusal ≡ None → P changed) → P m → P (kept refusal m changed)
 kept_is P None m changed new old = new refl
@@ -35,12 +26,12 @@ calls_keep : (P : Meaning → Type 0) (m after : Meaning) (call : Call) (answer 
     → P m → Serves m call answer after → P after
 calls_keep P m after AskSize answer widens puts h s = subst P (sym s.1) h
 calls_keep P m after (Widen row column) answer widens puts h s = subst P (sym s.1.1.after_is) (kept_is P (widen_refusal m row.0 column.0) m (widened m row.0 column.0) (widens row.0 column.0) h)
-calls_keep P m after (Put row column label) answer widens puts h s = subst P (sym s.1.1.after_is) (kept_is P (put_refusal m row.0 column.0 label.0) m (placed m row.0 column.0 label.0) (puts row.0 column.0 label.0) h)
+calls_keep P m after (Put p) answer widens puts h s = subst P (sym s.1.1.after_is) (kept_is P (put_refusal m p.row.0 p.column.0 p.label.0) m (placed m p.row.0 p.column.0 p.label.0) (puts p.row.0 p.column.0 p.label.0) h)
 calls_keep P m after (Locate label) answer widens puts h s = subst P (sym s.1) h
 calls_keep P m after (First within floor) answer widens puts h s = subst P (sym s.1) h
 
 kept_refused : (refusal : Option Refusal) (m changed : Meaning) (e : Refusal) → Err e ≡ settled refusal → kept refusal m changed ≡ m
-kept_refused None m changed e is = let z : ◌≡◌ {A = ℕ} 0 1 = cc in absurd (omega arith)
+kept_refused None m changed e is = absurd (cc)
 kept_refused (Some refusal) m changed e is = refl
 
 pub calls_keep_proper : CallsKeepProper
@@ -73,7 +64,7 @@ settled_err told e is = cc
 pub refusals_change_nothing : RefusalsChangeNothing
 refusals_change_nothing m after AskSize refusal s = s.1
 refusals_change_nothing m after (Widen row column) refusal s = s.1.1.after_is ∙ kept_refused (widen_refusal m row.0 column.0) m (widened m row.0 column.0) refusal (settled_err s.0 refusal s.1.0 ∙ s.1.1.answer_is)
-refusals_change_nothing m after (Put row column label) refusal s = s.1.1.after_is ∙ kept_refused (put_refusal m row.0 column.0 label.0) m (placed m row.0 column.0 label.0) refusal (settled_err s.0 refusal s.1.0 ∙ s.1.1.answer_is)
+refusals_change_nothing m after (Put p) refusal s = s.1.1.after_is ∙ kept_refused (put_refusal m p.row.0 p.column.0 p.label.0) m (placed m p.row.0 p.column.0 p.label.0) refusal (settled_err s.0 refusal s.1.0 ∙ s.1.1.answer_is)
 refusals_change_nothing m after (Locate label) refusal s = s.1
 refusals_change_nothing m after (First within floor) refusal s = s.1
 
@@ -85,7 +76,7 @@ widen_then_put m a b row column label w on_row on_column low none room =
     let n : Meaning = widened m a b in
     let same : count n ≡ count m = count-widened m a b in
     let gone : stands n label ≡ false = some_moved a b (place_at m label) ∙ none in (
-      may_put n row column label (omega arith) (omega arith) low gone (omega (arith, same)),
+      put_allowed n row column label (omega arith) (omega arith) low gone (omega (arith, same)),
       record {
         rows_are = refl;
         columns_are = refl;
@@ -100,7 +91,7 @@ moved_off : (a x : ℕ) → moved a x ≡ a → ⊥
 moved_off a x e = grind (arith, nat_tests, e)
 
 opened_empty : (a b row column : ℕ) (o : Option (ℕ × ℕ)) → moved_point a b o ≡ Some (row, column) → (row ≡ a → ⊥) × (column ≡ b → ⊥)
-opened_empty a b row column None e = let z : ◌≡◌ {A = ℕ} 0 1 = cc in absurd (omega arith)
+opened_empty a b row column None e = absurd (cc)
 opened_empty a b row column (Some place) e =
     let same : (moved a place.0 ≡ row) × (moved b place.1 ≡ column) = some_pair (moved a place.0, moved b place.1) (row, column) e in
     (λ h. moved_off a place.0 (same.0 ∙ h), λ h. moved_off b place.1 (same.1 ∙ h))

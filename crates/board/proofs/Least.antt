@@ -11,6 +11,9 @@ use Rattle.board.specs.Answering.{LeastOf, lowest}
 min_either : (H : ℕ → Bool) (x y : ℕ) → H x ≡ true → H y ≡ true → H (min x y) ≡ true
 min_either H x y p q = ⊎_elim (λ e. let is : min x y ≡ x = omega (arith, e) in ap H is ∙ p) (λ e. let is : min x y ≡ y = omega (arith, e) in ap H is ∙ q) (leb_tells x y)
 
+never : (x : Bool) → x ≡ true → x ≡ false → ⊥
+never x t f = cc
+
 -- one number more to look at
 pub least_more : (H H' : ℕ → Bool) (label : Strand) (q : Bool) (o : Option Strand) → ((k : ℕ) → H' k ≡ cond (eqb label.0 k) q (H k)) → H label.0 ≡ false → LeastOf H o → LeastOf H' (cond q (lowest o label) o)
 least_more H H' label false None e f least = λ k. let a = e k in let b = least k in grind (arith, nat_tests, a, b)
@@ -21,7 +24,7 @@ least_more H H' label true None e f least =
 least_more H H' label false (Some l) e f least =
     let lab : ℕ = label.0 in
     let a : H' l.0 ≡ cond (eqb lab l.0) false (H l.0) = e l.0 in
-    let apart : lab ≡ l.0 → ⊥ = λ same. let z : true ≡ false = sym least.0 ∙ (ap H (sym same) ∙ f) in let y : ◌≡◌ {A = ℕ} 0 1 = cc in omega arith in
+    let apart : lab ≡ l.0 → ⊥ = λ same. never (H l.0) least.0 (ap H (sym same) ∙ f) in
     (a ∙ grind (arith, nat_tests, least.0, apart), λ k h. let x : H' k ≡ cond (eqb lab k) false (H k) = e k in let b : H k ≡ false = least.1 k h in grind (arith, nat_tests, x, b))
 least_more H H' label true (Some l) e f least =
     let lab : ℕ = label.0 in
@@ -44,15 +47,12 @@ hits_more within floor at at' place label e k =
 
 misses : (within : Rectangle) (floor label : ℕ) (o : Option (ℕ × ℕ)) → is_some o ≡ false → (leb floor label && stands_inside within o) ≡ false
 misses within floor label None free = and_right (leb floor label) false refl
-misses within floor label (Some place) free = let z : ◌≡◌ {A = ℕ} 0 1 = cc in absurd (omega arith)
+misses within floor label (Some place) free = absurd (cc)
 
 -- the smallest label inside, after one point more
 pub first_more : (within : Rectangle) (floor : ℕ) (at at' : ℕ → Option (ℕ × ℕ)) (place : ℕ × ℕ) (label : Strand) (o : Option Strand) → ((k : ℕ) → at' k ≡ cond (eqb label.0 k) (Some place) (at k)) → is_some (at label.0) ≡ false → LeastOf (hits within floor at) o → LeastOf (hits within floor at') (cond (leb floor label.0 && inside within place) (lowest o label) o)
 first_more within floor at at' place label o e free h =
     least_more (hits within floor at) (hits within floor at') label (leb floor label.0 && inside within place) o (hits_more within floor at at' place label.0 e) (misses within floor label.0 (at label.0) free) h
-
-never : (x : Bool) → x ≡ true → x ≡ false → ⊥
-never x t f = let z : ◌≡◌ {A = ℕ} 0 1 = cc in omega arith
 
 pub least_unique : (H : ℕ → Bool) (o o' : Option Strand) → LeastOf H o → LeastOf H o' → o ≡ o'
 least_unique H None None a b = refl

@@ -1,17 +1,19 @@
 -- What opening a row and a column, and a point more, make of a board's meaning.
-use Rattle.std.proofs.Common.{◌≡◌, ℕ, zero, suc, ◌+◌, ◌<◌, ◌≤◌, Bool, true, false, cond, eqb, is_some, Some, None, Ok, Option, sym, refl, ap, ◌∙◌, subst, ⊎_elim, not-suc-le-zero, arith}
+use Rattle.std.proofs.Common.{◌≡◌, ℕ, zero, suc, ◌+◌, ◌<◌, ◌≤◌, Bool, true, false, cond, eqb, is_some, Some, None, Ok, Err, Option, Result, sym, refl, ap, ◌∙◌, subst, ⊎_elim, not-suc-le-zero, arith}
 use mathlib.Core.Path.{fun_ext}
 use Rattle.std.proofs.lemmas.Bool.Decides.{nat_tests, eqb_tells}
 use Rattle.std.proofs.lemmas.Bool.{cond-true, cond-false}
-use Rattle.std.specs.Option.{option_map}
 use Rattle.grammar.specs.Limits.{max_strands}
 use Rattle.grammar.specs.declared.refusals.Refusal.{Refusal}
 use Rattle.grammar.specs.Orders.{tally}
+use Rattle.board.specs.Meaning.{Meaning, Proper, place_at, stands, count, clean, moved, held_rank, moved_point, widened, placed}
+use Rattle.std.specs.Option.{option_map}
 use Rattle.grammar.specs.declared.strands.BackRank.{BackRank}
 use Rattle.grammar.specs.declared.strands.ForeRank.{ForeRank}
 use Rattle.grammar.specs.declared.strands.Strand.{Strand}
-use Rattle.board.specs.Meaning.{Meaning, Proper, place_at, stands, count, clean, moved, held_rank, moved_point, widened, placed}
-use Rattle.board.specs.Answering.{widen_refusal, put_refusal, ranked, settled, kept, Settles, Locates}
+use Rattle.board.specs.declared.points.Point.{Point}
+use Rattle.board.specs.declared.sizes.Size.{Size}
+use Rattle.board.specs.Answering.{Sizes, Locates, ranked, widen_fault, put_fault, widen_refusal, put_refusal, settled, kept, Settles}
 
 pub moved_below : (place rank : ℕ) → rank < place → moved place rank ≡ rank
 moved_below place rank h = grind (arith, nat_tests)
@@ -82,7 +84,7 @@ clean_proper capacity few =
       capacity_few = few;
       points_few = omega (arith, count-clean capacity);
       labels_low = λ label h. refl;
-      on_board = λ label row column e. let z : ◌≡◌ {A = ℕ} 0 1 = cc in absurd (omega arith);
+      on_board = λ label row column e. absurd (cc);
     }
 
 pub some_pair : (a b : ℕ × ℕ) → Some a ≡ Some b → (a.0 ≡ b.0) × (a.1 ≡ b.1)
@@ -91,7 +93,7 @@ some_pair a b e =
     (ap (λ (p : ℕ × ℕ). p.0) same, ap (λ (p : ℕ × ℕ). p.1) same)
 
 moved_on_board : (rows columns a b row column : ℕ) (o : Option (ℕ × ℕ)) → ((r c : ℕ) → o ≡ Some (r, c) → (r < rows) × (c < columns)) → moved_point a b o ≡ Some (row, column) → (row < rows + 1) × (column < columns + 1)
-moved_on_board rows columns a b row column None old e = let z : ◌≡◌ {A = ℕ} 0 1 = cc in absurd (omega arith)
+moved_on_board rows columns a b row column None old e = absurd (cc)
 moved_on_board rows columns a b row column (Some place) old e =
     let at : (place.0 < rows) × (place.1 < columns) = old place.0 place.1 refl in
     let same : (moved a place.0 ≡ row) × (moved b place.1 ≡ column) = some_pair (moved a place.0, moved b place.1) (row, column) e in
@@ -124,19 +126,8 @@ placed_proper m row column label on_row on_column low free room w =
           (eqb_tells label other);
     }
 
-mapped_some : (o : Option (ℕ × ℕ)) → is_some (option_map ranked o) ≡ is_some o
-mapped_some None = refl
-mapped_some (Some place) = refl
-
--- whether a label was found is whether it stands
-pub located_stands : (m : Meaning) (label : Strand) (answer : Option (BackRank × ForeRank)) → Locates m label answer → is_some answer ≡ stands m label.0
-located_stands m label answer e = ap is_some e ∙ mapped_some (place_at m label.0)
-
-pub may_widen : (m : Meaning) (row column : ℕ) → m.rows < max_strands → m.columns < max_strands → row ≤ m.rows → column ≤ m.columns → widen_refusal m row column ≡ None
-may_widen m row column rows columns on_row on_column = grind (arith, nat_tests)
-
-pub may_put : (m : Meaning) (row column label : ℕ) → row < m.rows → column < m.columns → label < max_strands → stands m label ≡ false → count m < m.capacity → put_refusal m row column label ≡ None
-may_put m row column label on_row on_column low free room = grind (arith, nat_tests)
+pub put_allowed : (m : Meaning) (row column label : ℕ) → row < m.rows → column < m.columns → label < max_strands → stands m label ≡ false → count m < m.capacity → put_refusal m row column label ≡ None
+put_allowed m row column label on_row on_column low free room = grind (arith, nat_tests)
 
 -- a call that is accepted
 pub accepted : (refusal : Option Refusal) (m changed after : Meaning) → refusal ≡ None → after ≡ changed → Settles refusal m changed (Ok tt) after
@@ -154,3 +145,44 @@ placed_as m after row column label n is on_row on_column low free room counted w
       ap count is ∙ (count-placed m row column label low free ∙ ap (λ (k : ℕ). k + 1) counted),
       subst P (sym is) (placed_proper m row column label on_row on_column low free (omega (arith, counted)) w),
     )
+
+-- what a widening that is accepted says of its places
+pub wide : (m : Meaning) (a b : ℕ) → widen_refusal m a b ≡ None → (m.rows < max_strands) × (m.columns < max_strands) × (a ≤ m.rows) × (b ≤ m.columns)
+wide m a b e = (grind (arith, nat_tests, e), grind (arith, nat_tests, e), grind (arith, nat_tests, e), grind (arith, nat_tests, e))
+
+-- what a put that is accepted says of its point
+pub free : (m : Meaning) (row column label : ℕ) → put_refusal m row column label ≡ None → (row < m.rows) × (column < m.columns) × (label < max_strands) × (stands m label ≡ false) × (count m < m.capacity)
+free m row column label e = (grind (arith, nat_tests, e), grind (arith, nat_tests, e), grind (arith, nat_tests, e), grind (arith, nat_tests, e), grind (arith, nat_tests, e))
+
+mapped_some : (o : Option (ℕ × ℕ)) → is_some (option_map ranked o) ≡ is_some o
+mapped_some None = refl
+mapped_some (Some place) = refl
+
+-- a call that is not refused
+not_refused : (refusal : Option Refusal) (done : Unit {0}) → Ok done ≡ settled refusal → refusal ≡ None
+not_refused None done e = refl
+not_refused (Some refusal) done e = absurd (cc)
+
+-- a call that is refused
+declined : (refusal : Option Refusal) (m changed : Meaning) (answer : Result (Unit {0}) Refusal) (e : Refusal) → answer ≡ Err e → Err e ≡ settled refusal → Settles refusal m changed answer m
+declined None m changed answer e is told = absurd (cc)
+declined (Some r) m changed answer e is told = record { answer_is = is ∙ told; after_is = refl }
+
+-- what a size allows, every board of that size allows
+pub widen_clear : {size : Size} {done : Unit {0}} (m : Meaning) (row column : ℕ) → Sizes m size → Ok done ≡ settled (widen_fault size row column) → widen_refusal m row column ≡ None
+widen_clear m row column is told = not_refused _ _ (told ∙ ap (λ (s : Size). settled (widen_fault s row column)) is)
+
+found_stands : (m : Meaning) (label : Strand) (found : Option (BackRank × ForeRank)) → Locates m label found → is_some found ≡ stands m label.0
+found_stands m label found at = ap is_some at ∙ mapped_some (place_at m label.0)
+
+put_told : (m : Meaning) (size : Size) (point : Point) (found : Option (BackRank × ForeRank)) → Sizes m size → Locates m point.label found → put_fault size (is_some found) point.row.0 point.column.0 point.label.0 ≡ put_refusal m point.row.0 point.column.0 point.label.0
+put_told m size point found is at =
+    let stand = found_stands m point.label found at in
+    cc
+
+pub put_clear : {size : Size} {found : Option (BackRank × ForeRank)} {done : Unit {0}} (m : Meaning) (point : Point) → Sizes m size → Locates m point.label found → Ok done ≡ settled (put_fault size (is_some found) point.row.0 point.column.0 point.label.0) → put_refusal m point.row.0 point.column.0 point.label.0 ≡ None
+put_clear {size = size} {found = found} m point is at told = not_refused _ _ (told ∙ ap settled (put_told m size point found is at))
+
+-- and what it declines, they decline
+pub put_declined : {size : Size} {found : Option (BackRank × ForeRank)} {changed : Meaning} {answer : Result (Unit {0}) Refusal} {e : Refusal} (m : Meaning) (point : Point) → Sizes m size → Locates m point.label found → answer ≡ Err e → Err e ≡ settled (put_fault size (is_some found) point.row.0 point.column.0 point.label.0) → Settles (put_refusal m point.row.0 point.column.0 point.label.0) m changed answer m
+put_declined {size = size} {found = found} m point is at answers told = declined _ m _ _ _ answers (told ∙ ap settled (put_told m size point found is at))

@@ -1,6 +1,6 @@
 -- A meaning decides what calls answer and what they leave.
 use Rattle.std.proofs.Common.{◌≡◌, ℕ, ◌+◌, ◌<◌, ◌≤◌, List, [], ◌∷◌, ◌++◌, length, get_or, take, Option, sym, refl, ap, ◌∙◌, subst}
-use Rattle.std.proofs.lemmas.List.{take_all, take_more, length_push}
+use Rattle.std.proofs.lemmas.List.{take_all, take_more}
 use Rattle.grammar.specs.declared.refusals.Refusal.{Refusal}
 use Rattle.board.specs.declared.calls.Call.{Call}
 use Rattle.board.specs.declared.calls.Call.TheVariants.{AskSize, Widen, Put, Locate, First}
@@ -24,7 +24,7 @@ settles_alike refusal m changed m₁ m₂ a a' t t' = (
 pub serves_alike : (m : Meaning) (call : Call) (a a' : Answer) (m₁ m₂ : Meaning) → Serves m call a m₁ → Serves m call a' m₂ → (a ≡ a') × (m₁ ≡ m₂)
 serves_alike m AskSize a a' m₁ m₂ s s' = (s.0.1.0 ∙ (ap Counts (s.0.1.1 ∙ sym s'.0.1.1) ∙ sym s'.0.1.0), s.1 ∙ sym s'.1)
 serves_alike m (Widen row column) a a' m₁ m₂ s s' = settles_alike _ m _ m₁ m₂ a a' s s'
-serves_alike m (Put row column label) a a' m₁ m₂ s s' = settles_alike _ m _ m₁ m₂ a a' s s'
+serves_alike m (Put point) a a' m₁ m₂ s s' = settles_alike _ m _ m₁ m₂ a a' s s'
 serves_alike m (Locate label) a a' m₁ m₂ s s' = (s.0.1.0 ∙ (ap Place (s.0.1.1 ∙ sym s'.0.1.1) ∙ sym s'.0.1.0), s.1 ∙ sym s'.1)
 serves_alike m (First within floor) a a' m₁ m₂ s s' =
     (tells_alike Label (Firsts m within floor) (Firsts m within floor) a a' (least_unique (hits within floor.0 (place_at m))) s.0 s'.0, s.1 ∙ sym s'.1)
@@ -66,6 +66,3 @@ run_more calls xs ys i call d a m m₁ m₂ h is more r s =
 -- all calls are made
 pub run_all : (calls : List Call) (xs : List Answer) (i : ℕ) (m m₁ : Meaning) → length calls ≤ i → Runs m (take i calls) xs m₁ → Runs m calls xs m₁
 run_all calls xs i m m₁ h r = let P : List Call → Type 0 = λ cs. Runs m cs xs m₁ in subst P (take_all i calls h) r
-
-pub one_longer : (xs ys : List Answer) (a : Answer) (i : ℕ) → ys ≡ xs ++ a ∷ [] → length xs ≡ i → length ys ≡ i + 1
-one_longer xs ys a i more long = ap length more ∙ (length_push xs a ∙ ap (λ (k : ℕ). k + 1) long)

@@ -8,6 +8,7 @@ use Rattle.grammar.specs.declared.refusals.Refusal.TheVariants.{OffBoard, LabelT
 use Rattle.grammar.specs.declared.strands.BackRank.{BackRank}
 use Rattle.grammar.specs.declared.strands.ForeRank.{ForeRank}
 use Rattle.grammar.specs.declared.strands.Strand.{Strand}
+use Rattle.board.specs.declared.points.Point.{Point}
 use Rattle.board.specs.declared.rectangles.Rectangle.{Rectangle}
 use Rattle.board.specs.declared.sizes.Size.{Size}
 use Rattle.board.specs.Meaning.{Meaning, place_at, stands, count, widened, placed, hits}
@@ -34,28 +35,35 @@ pub record Settles (refusal : Option Refusal) (before changed : Meaning) (answer
   pub answer_is : answer ≡ settled refusal
   pub after_is : after ≡ kept refusal before changed
 
--- a row place equal to the rows, and a column place equal to the columns, is no refusal
-abbrev pub widen_refusal : Meaning → ℕ → ℕ → Option Refusal
-widen_refusal m row column =
+-- why a board of a size opens no row and column at these places; a row place equal to the rows, and a column place equal to the columns, is no refusal
+abbrev pub widen_fault : Size → ℕ → ℕ → Option Refusal
+widen_fault size row column =
     first_of (
-    (nat_le max_strands m.rows || nat_le max_strands m.columns, BoardAtLimit)
-    ∷ (nat_lt m.rows row || nat_lt m.columns column, OffBoard)
+    (nat_le max_strands size.rows || nat_le max_strands size.columns, BoardAtLimit)
+    ∷ (nat_lt size.rows row || nat_lt size.columns column, OffBoard)
     ∷ [])
+
+abbrev pub widen_refusal : Meaning → ℕ → ℕ → Option Refusal
+widen_refusal m row column = widen_fault (size_of m) row column
 
 abbrev pub Widens : Meaning → BackRank → ForeRank → Result (Unit {0}) Refusal → Meaning → Type 0
 Widens m row column answer after = Settles (widen_refusal m row.0 column.0) m (widened m row.0 column.0) answer after
 
-abbrev pub put_refusal : Meaning → ℕ → ℕ → ℕ → Option Refusal
-put_refusal m row column label =
+-- why a board of a size adds no point there, whose label is taken or not
+abbrev pub put_fault : Size → Bool → ℕ → ℕ → ℕ → Option Refusal
+put_fault size taken row column label =
     first_of (
-    (nat_le m.rows row || nat_le m.columns column, OffBoard)
-    ∷ (nat_le max_strands label || stands m label, LabelTaken)
-    ∷ (nat_le m.capacity (count m), BoardFull)
+    (nat_le size.rows row || nat_le size.columns column, OffBoard)
+    ∷ (nat_le max_strands label || taken, LabelTaken)
+    ∷ (nat_le size.capacity size.points, BoardFull)
     ∷ [])
 
-abbrev pub Puts : Meaning → BackRank → ForeRank → Strand → Result (Unit {0}) Refusal → Meaning → Type 0
-Puts m row column label answer after =
-    Settles (put_refusal m row.0 column.0 label.0) m (placed m row.0 column.0 label.0) answer after
+abbrev pub put_refusal : Meaning → ℕ → ℕ → ℕ → Option Refusal
+put_refusal m row column label = put_fault (size_of m) (stands m label) row column label
+
+abbrev pub Puts : Meaning → Point → Result (Unit {0}) Refusal → Meaning → Type 0
+Puts m point answer after =
+    Settles (put_refusal m point.row.0 point.column.0 point.label.0) m (placed m point.row.0 point.column.0 point.label.0) answer after
 
 -- a place's row and column, each in its own rank type
 abbrev pub ranked : ℕ × ℕ → BackRank × ForeRank

@@ -1,5 +1,5 @@
 -- Calls with their answers, one after another.
-use Rattle.std.specs.Prelude.{◌≡◌, List, [], ◌∷◌}
+use Rattle.std.specs.Prelude.{◌≡◌, List, [], ◌∷◌, map}
 use Rattle.board.specs.declared.calls.Call.{Call}
 use Rattle.board.specs.declared.calls.Call.TheVariants.{AskSize, Widen, Put, Locate, First}
 use Rattle.board.specs.declared.calls.Answer.{Answer}
@@ -15,7 +15,7 @@ Tells {X = X} form Right answer = (told : X) × ((answer ≡ form told) × Right
 abbrev pub Serves : Meaning → Call → Answer → Meaning → Type 0
 Serves m AskSize answer after = Tells Counts (Sizes m) answer × (after ≡ m)
 Serves m (Widen row column) answer after = Tells Settled (λ told. Widens m row column told after) answer
-Serves m (Put row column label) answer after = Tells Settled (λ told. Puts m row column label told after) answer
+Serves m (Put point) answer after = Tells Settled (λ told. Puts m point told after) answer
 Serves m (Locate label) answer after = Tells Place (Locates m label) answer × (after ≡ m)
 Serves m (First within floor) answer after = Tells Label (Firsts m within floor) answer × (after ≡ m)
 
@@ -25,3 +25,10 @@ Runs m [] [] after = after ≡ m
 Runs m [] (answer ∷ answers) after = ⊥
 Runs m (call ∷ calls) [] after = ⊥
 Runs m (call ∷ calls) (answer ∷ answers) after = (between : Meaning) × (Serves m call answer between × Runs between calls answers after)
+
+-- of what two boards answer side by side, what the one answers, and what the other does
+abbrev pub of_one : List (Answer × Answer) → List Answer
+of_one both = map (λ a. a.0) both
+
+abbrev pub of_other : List (Answer × Answer) → List Answer
+of_other both = map (λ a. a.1) both

@@ -3,11 +3,12 @@
 #![tactic(auto)]
 
 use board::Board;
+use board::points::Point;
+use board_examples::throws::thrown;
 use chained_board::chained_boards::ChainedBoard;
 use grammar::limits::BYTE_STRANDS;
 use grammar::strands::{BackRank, ForeRank, Strand};
 use list_board::list_boards::ListBoard;
-use list_board::points::Point;
 use std::io;
 use std::time::Instant;
 
@@ -20,50 +21,40 @@ struct Load {
 
 const QUESTIONS: u32 = 400000;
 
-fn widen_to<B: Board>(board: &mut B, rows: u16)
-    requires { B.ok board.old }
-    ensures { B.ok board.new }
-{
+// A call that is refused would show in what is printed.
+fn widen_to<B: Board>(board: &mut B, rows: u16) {
     for row in BYTE_STRANDS..rows {
         let _ = board.widen(BackRank(row / 2), ForeRank(row / 3));
     }
 }
 
 // Points with labels from 0 on, spread over the rows.
-fn put_points<B: Board>(board: &mut B, load: Load)
-    requires { B.ok board.old }
-    ensures { B.ok board.new }
-{
+fn put_points<B: Board>(board: &mut B, load: Load) {
     for label in 0..load.points {
-        let _ = board.put(BackRank(label % 256), ForeRank(label / 8), Strand(label));
+        let _ = board.put(Point {
+            row: BackRank(label % 256),
+            column: ForeRank(label / 8),
+            label: Strand(label),
+        });
     }
 }
 
-// A number that looks as if thrown, from the one before it.
-fn thrown(seed: u32) -> u32 {
-    seed.wrapping_mul(1664525).wrapping_add(1013904223)
-}
-
 // Asks for labels as if thrown, each question going by the answer before it, and gives the sum of the rows.
-fn ask<B: Board>(board: &B, points: u16) -> u32
-    requires { B.ok board.now }
-{
+fn ask<B: Board>(board: &B, points: u16) -> u32 {
     let mut sum: u32 = 0;
     let mut seed: u32 = 1;
     for _ in 0..QUESTIONS {
         let label = ((seed >> 8) % points.max(1) as u32) as u16;
-        if let Some(place) = board.locate(Strand(label)) {
-            sum = sum.saturating_add(place.0.0 as u32);
-            seed = thrown(seed.wrapping_add(place.0.0 as u32));
+        if let Some((row, _)) = board.locate(Strand(label)) {
+            sum = sum.saturating_add(row.0 as u32);
+            seed = thrown(seed.wrapping_add(row.0 as u32));
         }
     }
     sum
 }
 
 // Fills a board, asks, and tells the time for one question.
-fn measure<B: Board>(rt: &HostRuntime, name: &str, board: &mut B, load: Load) -> io::Result<u32>
-    requires { B.ok board.old }
-{
+fn measure<B: Board>(rt: &HostRuntime, name: &str, board: &mut B, load: Load) -> io::Result<u32> {
     put_points(board, load);
     widen_to(board, load.rows);
     let start = Instant::now(rt)?;
@@ -78,12 +69,7 @@ fn measure<B: Board>(rt: &HostRuntime, name: &str, board: &mut B, load: Load) ->
 }
 
 fn compare(rt: &HostRuntime, load: Load) -> io::Result<()> {
-    let blank = Point {
-        row: BackRank(0),
-        column: ForeRank(0),
-        label: Strand(0),
-    };
-    let mut table = vec![in rt.alloc(); blank; 1792]?;
+    let mut table = vec![in rt.alloc(); Point::default(); 1792]?;
     let listed = measure(rt, "list", &mut ListBoard::new(&mut table), load)?;
     let chained = measure(rt, "chained", &mut ChainedBoard::new(rt.alloc())?, load)?;
     println!(rt;
@@ -92,37 +78,9 @@ fn compare(rt: &HostRuntime, load: Load) -> io::Result<()> {
     )
 }
 
-fn run(rt: &HostRuntime) -> io::Result<()> {
-    compare(
-        rt,
-        Load {
-            rows: 256,
-            points: 16,
-        },
-    )?;
-    compare(
-        rt,
-        Load {
-            rows: 2048,
-            points: 16,
-        },
-    )?;
-    compare(
-        rt,
-        Load {
-            rows: 256,
-            points: 1792,
-        },
-    )?;
-    compare(
-        rt,
-        Load {
-            rows: 2048,
-            points: 1792,
-        },
-    )
-}
-
 fn main(rt: HostRuntime) -> io::Result<()> {
-    run(&rt)
+    for (rows, points) in [(256, 16), (2048, 16), (256, 1792), (2048, 1792)] {
+        compare(&rt, Load { rows, points })?;
+    }
+    Ok(())
 }

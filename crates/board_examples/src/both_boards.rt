@@ -1,23 +1,15 @@
 // The same list of calls on a list board and on a chained board of the same capacity.
+use super::points::point;
 use super::side_by_side::side_by_side;
+use super::throws::thrown;
 use board::calls::{Answer, Call, replay_both};
+use board::points::Point;
 use board::rectangles::Rectangle;
 use grammar::refusals::Refusal;
 use grammar::strands::{BackRank, ForeRank, Strand};
 use list_board::list_boards::ListBoard;
-use list_board::points::Point;
+use std::process::Abort;
 use std::test::Fail;
-
-const BLANK: Point = Point {
-    row: BackRank(0),
-    column: ForeRank(0),
-    label: Strand(0),
-};
-
-// A number that looks as if thrown, from the one before it.
-fn thrown(seed: u32) -> u32 {
-    seed.wrapping_mul(1664525).wrapping_add(1013904223)
-}
 
 // A number below 320, most of them on a board of 256 rows and more.
 fn rank(seed: u32) -> u16 {
@@ -33,7 +25,7 @@ fn label(seed: u32) -> Strand {
     }
 }
 
-// A call of any kind; every second one is a put.
+// A call of a kind that a number throws; every second one is a put.
 fn thrown_call(seed: u32) -> Call {
     let row = BackRank(rank(seed));
     let column = ForeRank(rank(thrown(seed)));
@@ -50,16 +42,16 @@ fn thrown_call(seed: u32) -> Call {
             },
             floor: label(thrown(seed)),
         },
-        _ => Call::Put {
+        _ => Call::Put(Point {
             row,
             column,
             label: label(thrown(seed)),
-        },
+        }),
     }
 }
 
 // How often each kind of answer was given, and the sums of what was told.
-#[derive(Clone, Copy, PartialEq, Debug)]
+#[derive(Clone, Copy, PartialEq, Default, Debug)]
 struct Totals {
     accepted: u32,
     off_board: u32,
@@ -74,10 +66,9 @@ struct Totals {
 fn settled(totals: &mut Totals, answer: Result<(), Refusal>) {
     match answer {
         Ok(()) => totals.accepted = totals.accepted.saturating_add(1),
-        Err(refusal) => match refusal.number() {
-            1 => totals.off_board = totals.off_board.saturating_add(1),
-            _ => totals.taken = totals.taken.saturating_add(1),
-        },
+        Err(Refusal::OffBoard) => totals.off_board = totals.off_board.saturating_add(1),
+        Err(Refusal::LabelTaken) => totals.taken = totals.taken.saturating_add(1),
+        Err(_) => {}
     }
 }
 
@@ -85,9 +76,9 @@ fn told(totals: &mut Totals, answer: Answer) {
     match answer {
         Answer::Counts(_) => {}
         Answer::Settled(answer) => settled(totals, answer),
-        Answer::Place(Some(place)) => {
-            totals.rows = totals.rows.saturating_add(place.0.0 as u32);
-            totals.columns = totals.columns.saturating_add(place.1.0 as u32);
+        Answer::Place(Some((row, column))) => {
+            totals.rows = totals.rows.saturating_add(row.0 as u32);
+            totals.columns = totals.columns.saturating_add(column.0 as u32);
         }
         Answer::Place(None) => totals.absent = totals.absent.saturating_add(1),
         Answer::Label(Some(label)) => totals.labels = totals.labels.saturating_add(label.0 as u32),
@@ -104,20 +95,10 @@ fn nine_hundred_calls_are_answered_alike(rt: HostRuntime) -> Result<(), Fail> {
         seed = thrown(seed);
         calls.push(thrown_call(seed))?;
     }
-    let (listed, linked) = side_by_side(rt.alloc(), calls.as_slice())?;
-    assert_eq!(rt; listed.len(), 900);
-    assert_eq!(rt; linked.len(), 900);
-    let mut totals = Totals {
-        accepted: 0,
-        off_board: 0,
-        taken: 0,
-        absent: 0,
-        none: 0,
-        rows: 0,
-        columns: 0,
-        labels: 0,
-    };
-    for (one, other) in listed.iter().zip(linked.iter()) {
+    let answers = side_by_side(rt.alloc(), calls.as_slice())?;
+    assert_eq!(rt; answers.len(), 900);
+    let mut totals = Totals::default();
+    for (one, other) in &answers {
         assert_eq!(rt; *one, *other);
         told(&mut totals, *other);
     }
@@ -135,44 +116,39 @@ fn nine_hundred_calls_are_answered_alike(rt: HostRuntime) -> Result<(), Fail> {
     Ok(())
 }
 
+// Both boards settle each call as `right` says of its index. These calls are too many to be written out as rows.
+fn settle_as<F: Fn(usize) -> Result<(), Refusal>>(
+    rt: &impl Abort,
+    answers: &[(Answer, Answer)],
+    right: F,
+)
+    requires { F.IsAlwaysCallable right }
+{
+    for (i, (one, other)) in answers.iter().enumerate() {
+        let answer = Answer::Settled(right(i));
+        assert_eq!(rt; *one, answer);
+        assert_eq!(rt; *other, answer);
+    }
+}
+
 // As many points as the capacity allows, and one more.
 #[test]
 fn full_boards_refuse_alike(rt: HostRuntime) -> Result<(), Fail> {
     let mut calls = Vec::new(rt.alloc());
     for i in 0..1792u16 {
-        calls.push(Call::Put {
-            row: BackRank(i % 256),
-            column: ForeRank(i / 7),
-            label: Strand(i),
-        })?;
+        calls.push(Call::Put(point(i % 256, i / 7, i)))?;
     }
-    calls.push(Call::Put {
-        row: BackRank(0),
-        column: ForeRank(0),
-        label: Strand(1792),
-    })?;
-    calls.push(Call::Put {
-        row: BackRank(0),
-        column: ForeRank(0),
-        label: Strand(5),
-    })?;
-    calls.push(Call::Put {
-        row: BackRank(256),
-        column: ForeRank(0),
-        label: Strand(5),
-    })?;
-    let (listed, linked) = side_by_side(rt.alloc(), calls.as_slice())?;
-    for (i, (one, other)) in listed.iter().zip(linked.iter()).enumerate() {
-        let right = match i {
-            1792 => Err(Refusal::BoardFull),
-            1793 => Err(Refusal::LabelTaken),
-            1794 => Err(Refusal::OffBoard),
-            _ => Ok(()),
-        };
-        assert_eq!(rt; *one, Answer::Settled(right));
-        assert_eq!(rt; *other, Answer::Settled(right));
-    }
-    assert_eq!(rt; listed.len(), 1795);
+    calls.push(Call::Put(point(0, 0, 1792)))?;
+    calls.push(Call::Put(point(0, 0, 5)))?;
+    calls.push(Call::Put(point(256, 0, 5)))?;
+    let answers = side_by_side(rt.alloc(), calls.as_slice())?;
+    assert_eq!(rt; answers.len(), 1795);
+    settle_as(&rt, &answers, |i| match i {
+        1792 => Err(Refusal::BoardFull),
+        1793 => Err(Refusal::LabelTaken),
+        1794 => Err(Refusal::OffBoard),
+        _ => Ok(()),
+    });
     Ok(())
 }
 
@@ -194,17 +170,15 @@ fn boards_at_the_limit_refuse_alike(rt: HostRuntime) -> Result<(), Fail> {
         row: BackRank(4000),
         column: ForeRank(0),
     })?;
-    let (listed, linked) = side_by_side(rt.alloc(), calls.as_slice())?;
-    for (i, (one, other)) in listed.iter().zip(linked.iter()).enumerate() {
-        let right = if i < 1792 {
+    let answers = side_by_side(rt.alloc(), calls.as_slice())?;
+    assert_eq!(rt; answers.len(), 1794);
+    settle_as(&rt, &answers, |i| {
+        if i < 1792 {
             Ok(())
         } else {
             Err(Refusal::BoardAtLimit)
-        };
-        assert_eq!(rt; *one, Answer::Settled(right));
-        assert_eq!(rt; *other, Answer::Settled(right));
-    }
-    assert_eq!(rt; listed.len(), 1794);
+        }
+    });
     Ok(())
 }
 
@@ -213,31 +187,21 @@ fn boards_at_the_limit_refuse_alike(rt: HostRuntime) -> Result<(), Fail> {
 fn all_labels_fit_a_list_board(rt: HostRuntime) -> Result<(), Fail> {
     let mut calls = Vec::new(rt.alloc());
     for i in 0..2048u16 {
-        calls.push(Call::Put {
-            row: BackRank(i % 256),
-            column: ForeRank(i / 8),
-            label: Strand(i),
-        })?;
+        calls.push(Call::Put(point(i % 256, i / 8, i)))?;
     }
-    calls.push(Call::Put {
-        row: BackRank(0),
-        column: ForeRank(0),
-        label: Strand(5),
-    })?;
-    let mut long = vec![in rt.alloc(); BLANK; 3000]?;
-    let mut just = vec![in rt.alloc(); BLANK; 2048]?;
+    calls.push(Call::Put(point(0, 0, 5)))?;
+    let mut long = vec![in rt.alloc(); Point::default(); 3000]?;
+    let mut just = vec![in rt.alloc(); Point::default(); 2048]?;
     let mut one = ListBoard::new(&mut long);
     let mut other = ListBoard::new(&mut just);
-    let (answers, others) = replay_both(rt.alloc(), &mut one, &mut other, calls.as_slice())?;
-    for (i, (one, other)) in answers.iter().zip(others.iter()).enumerate() {
-        let right = if i < 2048 {
+    let answers = replay_both(rt.alloc(), &mut one, &mut other, calls.as_slice())?;
+    assert_eq!(rt; answers.len(), 2049);
+    settle_as(&rt, &answers, |i| {
+        if i < 2048 {
             Ok(())
         } else {
             Err(Refusal::LabelTaken)
-        };
-        assert_eq!(rt; *one, Answer::Settled(right));
-        assert_eq!(rt; *other, Answer::Settled(right));
-    }
-    assert_eq!(rt; answers.len(), 2049);
+        }
+    });
     Ok(())
 }

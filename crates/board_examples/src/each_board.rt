@@ -1,11 +1,11 @@
 // Each call at the edges of its rules: lists of calls with their answers, held to both boards.
+use super::points::point;
 use super::side_by_side::side_by_side;
 use board::calls::{Answer, Call};
 use board::rectangles::Rectangle;
 use board::sizes::Size;
 use grammar::refusals::Refusal;
 use grammar::strands::{BackRank, ForeRank, Strand};
-use std::alloc::Global;
 use std::process::Abort;
 use std::test::Fail;
 
@@ -18,11 +18,7 @@ struct Row {
 
 fn put(row: u16, column: u16, label: u16, answer: Result<(), Refusal>) -> Row {
     Row {
-        call: Call::Put {
-            row: BackRank(row),
-            column: ForeRank(column),
-            label: Strand(label),
-        },
+        call: Call::Put(point(row, column, label)),
         answer: Answer::Settled(answer),
     }
 }
@@ -37,21 +33,12 @@ fn widen(row: u16, column: u16, answer: Result<(), Refusal>) -> Row {
     }
 }
 
-fn absent(label: u16) -> Row {
+fn located(label: u16, place: Option<(u16, u16)>) -> Row {
     Row {
         call: Call::Locate {
             label: Strand(label),
         },
-        answer: Answer::Place(None),
-    }
-}
-
-fn located(label: u16, row: u16, column: u16) -> Row {
-    Row {
-        call: Call::Locate {
-            label: Strand(label),
-        },
-        answer: Answer::Place(Some((BackRank(row), ForeRank(column)))),
+        answer: Answer::Place(place.map(|(row, column)| (BackRank(row), ForeRank(column)))),
     }
 }
 
@@ -84,14 +71,12 @@ fn first(rows: (u16, u16), columns: (u16, u16), floor: u16, answer: Option<Stran
 }
 
 // Both boards answer each call as its row says.
-fn hold(rt: &impl Abort, heap: Global, rows: &[Row]) -> Result<(), Fail> {
-    let mut calls = Vec::new(heap);
-    for row in rows {
-        calls.push(row.call)?;
-    }
-    let (listed, linked) = side_by_side(heap, calls.as_slice())?;
-    assert_eq!(rt; listed.len(), rows.len());
-    for (row, (one, other)) in rows.iter().zip(listed.iter().zip(linked.iter())) {
+fn hold<R: Abort + AllocGlobal>(rt: &R, rows: &[Row]) -> Result<(), Fail> {
+    // the calls alone, as both boards take them
+    let calls: Vec<Call> = rows.iter().map(|row| row.call).collect(rt.alloc())?;
+    let answers = side_by_side(rt.alloc(), &calls)?;
+    assert_eq!(rt; answers.len(), rows.len());
+    for (row, (one, other)) in rows.iter().zip(&answers) {
         assert_eq!(rt; *one, row.answer);
         assert_eq!(rt; *other, row.answer);
     }
@@ -109,13 +94,13 @@ fn labels_go_up_to_2047(rt: HostRuntime) -> Result<(), Fail> {
         put(256, 0, 1, Err(Refusal::OffBoard)),
         put(0, 256, 1, Err(Refusal::OffBoard)),
         put(256, 256, 2048, Err(Refusal::OffBoard)),
-        located(0, 0, 255),
-        located(2047, 255, 0),
-        absent(2048),
-        absent(1),
+        located(0, Some((0, 255))),
+        located(2047, Some((255, 0))),
+        located(2048, None),
+        located(1, None),
         size(256, 256, 2),
     ];
-    hold(&rt, rt.alloc(), &rows)
+    hold(&rt, &rows)
 }
 
 // At 0, in the middle, at the end and past it.
@@ -124,18 +109,18 @@ fn widening_moves_what_is_at_or_past_the_place(rt: HostRuntime) -> Result<(), Fa
     let rows = [
         put(100, 200, 7, Ok(())),
         widen(0, 0, Ok(())),
-        located(7, 101, 201),
+        located(7, Some((101, 201))),
         widen(101, 202, Ok(())),
-        located(7, 102, 201),
+        located(7, Some((102, 201))),
         widen(103, 201, Ok(())),
-        located(7, 102, 202),
+        located(7, Some((102, 202))),
         widen(259, 259, Ok(())),
-        located(7, 102, 202),
+        located(7, Some((102, 202))),
         widen(261, 0, Err(Refusal::OffBoard)),
         widen(0, 261, Err(Refusal::OffBoard)),
         size(260, 260, 1),
     ];
-    hold(&rt, rt.alloc(), &rows)
+    hold(&rt, &rows)
 }
 
 // Whatever was put first; floors and far sides as the rules say.
@@ -156,5 +141,5 @@ fn first_is_the_smallest_label_inside(rt: HostRuntime) -> Result<(), Fail> {
         first((12, 10), (20, 22), 0, None),
         first((10, 12), (22, 256), 0, None),
     ];
-    hold(&rt, rt.alloc(), &rows)
+    hold(&rt, &rows)
 }

@@ -1,56 +1,36 @@
 // List boards over tables of 0, 2 and 3,000 records.
+use super::points::point;
 use board::Board;
+use board::points::Point;
 use grammar::refusals::Refusal;
-use grammar::strands::{BackRank, ForeRank, Strand};
+use grammar::strands::{BackRank, ForeRank};
 use list_board::list_boards::ListBoard;
-use list_board::points::Point;
 use std::test::Fail;
 
-const BLANK: Point = Point {
-    row: BackRank(9),
-    column: ForeRank(9),
-    label: Strand(9),
-};
-
-fn point(row: u16, column: u16, label: u16) -> Point {
-    Point {
-        row: BackRank(row),
-        column: ForeRank(column),
-        label: Strand(label),
-    }
+// What the tables hold before a board is made over them.
+fn old() -> Point {
+    point(9, 9, 9)
 }
 
 #[test]
 fn a_table_of_no_records_holds_no_point(rt: HostRuntime) {
-    let mut table = [BLANK; 0];
+    let mut table = [old(); 0];
     let mut board = ListBoard::new(&mut table);
     assert_eq!(rt; board.size().capacity, 0);
-    assert_eq!(rt;
-        board.put(BackRank(0), ForeRank(0), Strand(0)),
-        Err(Refusal::BoardFull)
-    );
-    assert_eq!(rt;
-        board.put(BackRank(0), ForeRank(0), Strand(2048)),
-        Err(Refusal::LabelTaken)
-    );
+    assert_eq!(rt; board.put(point(0, 0, 0)), Err(Refusal::BoardFull));
+    assert_eq!(rt; board.put(point(0, 0, 2048)), Err(Refusal::LabelTaken));
     assert_eq!(rt; board.widen(BackRank(0), ForeRank(256)), Ok(()));
     assert_eq!(rt; board.size().rows, 257);
 }
 
 #[test]
 fn a_table_of_two_records_refuses_the_third_point(rt: HostRuntime) {
-    let mut table = [BLANK; 2];
+    let mut table = [old(); 2];
     let mut board = ListBoard::new(&mut table);
-    assert_eq!(rt; board.put(BackRank(7), ForeRank(8), Strand(300)), Ok(()));
-    assert_eq!(rt; board.put(BackRank(5), ForeRank(6), Strand(256)), Ok(()));
-    assert_eq!(rt;
-        board.put(BackRank(0), ForeRank(0), Strand(257)),
-        Err(Refusal::BoardFull)
-    );
-    assert_eq!(rt;
-        board.put(BackRank(0), ForeRank(0), Strand(256)),
-        Err(Refusal::LabelTaken)
-    );
+    assert_eq!(rt; board.put(point(7, 8, 300)), Ok(()));
+    assert_eq!(rt; board.put(point(5, 6, 256)), Ok(()));
+    assert_eq!(rt; board.put(point(0, 0, 257)), Err(Refusal::BoardFull));
+    assert_eq!(rt; board.put(point(0, 0, 256)), Err(Refusal::LabelTaken));
     assert_eq!(rt; board.widen(BackRank(7), ForeRank(7)), Ok(()));
     assert_eq!(rt; board.size().points, 2);
     assert_eq!(rt; board.points()[0], point(8, 9, 300));
@@ -60,21 +40,21 @@ fn a_table_of_two_records_refuses_the_third_point(rt: HostRuntime) {
 // The points in the order put, at the front of the table, and nothing else written.
 #[test]
 fn the_lent_table_holds_the_points_afterwards(rt: HostRuntime) {
-    let mut table = [BLANK; 4];
+    let mut table = [old(); 4];
     let mut board = ListBoard::new(&mut table);
-    assert_eq!(rt; board.put_last(point(1, 2, 3)), Ok(()));
-    assert_eq!(rt; board.open(BackRank(0), ForeRank(3)), Ok(()));
-    assert_eq!(rt; board.put_last(point(0, 3, 1)), Ok(()));
-    assert_eq!(rt; board.put_last(point(0, 3, 1)), Err(Refusal::LabelTaken));
+    assert_eq!(rt; board.put(point(1, 2, 3)), Ok(()));
+    assert_eq!(rt; board.widen(BackRank(0), ForeRank(3)), Ok(()));
+    assert_eq!(rt; board.put(point(0, 3, 1)), Ok(()));
+    assert_eq!(rt; board.put(point(0, 3, 1)), Err(Refusal::LabelTaken));
     assert_eq!(rt; table[0], point(2, 2, 3));
     assert_eq!(rt; table[1], point(0, 3, 1));
-    assert_eq!(rt; table[2], BLANK);
-    assert_eq!(rt; table[3], BLANK);
+    assert_eq!(rt; table[2], old());
+    assert_eq!(rt; table[3], old());
 }
 
 #[test]
 fn a_table_of_three_thousand_records_gives_a_capacity_of_2048(rt: HostRuntime) -> Result<(), Fail> {
-    let mut table = vec![in rt.alloc(); BLANK; 3000]?;
+    let mut table = vec![in rt.alloc(); old(); 3000]?;
     let board = ListBoard::new(&mut table);
     assert_eq!(rt; board.size().capacity, 2048);
     Ok(())

@@ -7,4 +7,7 @@ mod both_boards;
 mod each_board;
 #[cfg(test)]
 mod lent_tables;
+#[cfg(test)]
+mod points;
 pub mod side_by_side;
+pub mod throws;

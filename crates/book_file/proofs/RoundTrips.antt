@@ -38,7 +38,7 @@ module _ {ps : List Pair} {ls : List LineRecord} {before after : List ℕ} {size
 
   no_content : (fault : Fault) → Due (layout_fault (take size after)) fault → NoContent ps ls before after fault
   no_content (Refused r) due = let a = accepted_part in absurd (grind arith)
-  no_content Memory due = encoded_again
+  no_content (Memory error) due = encoded_again
 
   pub decoded_back : (bytes : List ℕ) → bytes ≡ take size after → (r : Result Content Fault) → MatchResult r (Decoded bytes) (Due (layout_fault bytes)) → MatchResult r (SameContent ps ls before after) (NoContent ps ls before after)
   decoded_back bytes part r c =
@@ -59,7 +59,7 @@ first_behind ((false, x) ∷ rs) more e = first_behind rs more e
 pub not_decoded : (bytes before : List ℕ) (fault : Fault) → Due (layout_fault bytes) fault → NoFile bytes before before fault
 unfolding layout_fault copy_fault
 not_decoded bytes before (Refused r) due = (first_before (layout_faults bytes) ((ltb (length before) (length bytes), TooSmall) ∷ []) r due, refl)
-not_decoded bytes before Memory due = (due, refl)
+not_decoded bytes before (Memory error) due = (due, refl)
 
 -- a content that was decoded, with its pairs and lines as slices
 module _ {bytes : List ℕ} {content : Content} {ps : List Pair} {ls : List LineRecord} (d : Decoded bytes content) (p : ps ≡ vec_items content.pairs) (l : ls ≡ vec_items content.lines) where

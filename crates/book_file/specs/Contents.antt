@@ -28,7 +28,7 @@ pub record Decoded (bytes : List ℕ) (content : Content) : Type 0 where
 -- a fault is the refusal that is due; memory is short only where none is due
 abbrev pub Due : Option Refusal → Fault → Type 0
 Due refusal (Refused r) = refusal ≡ Some r
-Due refusal Memory = refusal ≡ None
+Due refusal (Memory error) = refusal ≡ None
 
 -- the file of the pairs and lines stands at the buffer's beginning, and the rest is as it was
 pub record Encoded (pairs : List Pair) (lines : List LineRecord) (before after : List ℕ) (size : ℕ) : Type 0 where

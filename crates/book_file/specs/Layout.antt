@@ -49,17 +49,20 @@ field (suc w) k bytes = slice_index bytes k + 256 * field w (k + 1) bytes
 abbrev pub header_in : List ℕ → Header
 header_in bytes = record { size = field 4 0 bytes; pairs = field 2 4 bytes; lines = field 2 6 bytes; pair_table = field 4 8 bytes; line_table = field 4 12 bytes }
 
+-- more pairs or lines than there may be
+abbrev pub limit_faults : ℕ → ℕ → List (Bool × Refusal)
+limit_faults p q = (nat_lt max_pairs p, BadHeader 4) ∷ (nat_lt max_lines q, BadHeader 6) ∷ []
+
 -- what can be wrong with a file of n bytes by its header, in the order of the checks
 abbrev pub header_faults : Header → ℕ → List (Bool × Refusal)
 header_faults h n =
-    (nat_lt max_pairs h.pairs, BadHeader 4)
-    ∷ (nat_lt max_lines h.lines, BadHeader 6)
-    ∷ (not (h.pair_table == 16), BadHeader 8)
+    limit_faults h.pairs h.lines
+    ++ ((not (h.pair_table == 16), BadHeader 8)
     ∷ (not (h.line_table == 16 + 4 * h.pairs), BadHeader 12)
     ∷ (not (h.size == size_of h.pairs h.lines), BadHeader 0)
     ∷ (nat_lt n h.size, FileShort n)
     ∷ (nat_lt h.size n, BadHeader h.size)
-    ∷ []
+    ∷ [])
 
 -- what can be wrong with a file, in the order of the checks
 abbrev pub layout_faults : List ℕ → List (Bool × Refusal)
@@ -71,8 +74,4 @@ layout_fault bytes = first_of (layout_faults bytes)
 
 -- why a content of p pairs and q lines is not written to a buffer of n bytes
 abbrev pub encode_fault : ℕ → ℕ → ℕ → Option Refusal
-encode_fault p q n = first_of (
-    (nat_lt max_pairs p, BadHeader 4)
-    ∷ (nat_lt max_lines q, BadHeader 6)
-    ∷ (nat_lt n (size_of p q), TooSmall)
-    ∷ [])
+encode_fault p q n = first_of (limit_faults p q ++ ((nat_lt n (size_of p q), TooSmall) ∷ []))

@@ -21,7 +21,7 @@ pub record SameContent (pairs : List Pair) (lines : List LineRecord) (before aft
 -- only encoding refuses; memory can be short only after it
 abbrev pub NoContent : List Pair → List LineRecord → List ℕ → List ℕ → Fault → Type 0
 NoContent pairs lines before after (Refused refusal) = NotEncoded pairs lines before after refusal
-NoContent pairs lines before after Memory = Encoded pairs lines before after (size_of (length pairs) (length lines))
+NoContent pairs lines before after (Memory error) = Encoded pairs lines before after (size_of (length pairs) (length lines))
 
 -- why bytes are not decoded and encoded again to a buffer of n bytes: they are no book file, or they do not fit
 unfoldable pub copy_fault : List ℕ → ℕ → Option Refusal
@@ -36,4 +36,4 @@ pub record SameFile (bytes before after : List ℕ) (size : ℕ) : Type 0 where
 -- the fault is the refusal that is due, memory can be short only once the bytes are accepted, and the buffer is as it was
 abbrev pub NoFile : List ℕ → List ℕ → List ℕ → Fault → Type 0
 NoFile bytes before after (Refused refusal) = (copy_fault bytes (length before) ≡ Some refusal) × (after ≡ before)
-NoFile bytes before after Memory = (layout_fault bytes ≡ None) × (after ≡ before)
+NoFile bytes before after (Memory error) = (layout_fault bytes ≡ None) × (after ≡ before)

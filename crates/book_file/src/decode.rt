@@ -4,10 +4,9 @@ ghost use Rattle.std.specs.List.{flat_map};
 ghost use Rattle.grammar.specs.Refusals.{first_of};
 ghost use Rattle.book_file.specs.Contents.{Opened, Decoded, Due};
 ghost use Rattle.book_file.specs.Layout.{header_faults, layout_fault};
-ghost use Rattle.book_file.specs.declared.decode.Fault.TheVariants.{Refused as refused, Memory};
+ghost use Rattle.book_file.specs.declared.decode.Fault.TheVariants.{Refused as refused, Memory as memory};
 
-use super::records::{Header, LineRecord, Record};
-use grammar::limits::{MAX_LINES, MAX_PAIRS};
+use super::records::{Header, LineRecord, Record, within_limits};
 use grammar::refusals::Refusal;
 use grammar::strands::Pair;
 use std::alloc::{AllocError, Global};
@@ -30,7 +29,7 @@ pub struct Content {
 #[derive(Clone, Copy, PartialEq, Eq, Debug)]
 pub enum Fault {
     Refused(Refusal),
-    Memory,
+    Memory(AllocError),
 }
 
 // Both by hand, since a clause learns from `from_gives` which fault a `?` makes.
@@ -43,10 +42,10 @@ impl From<Refusal> for Fault {
 }
 
 impl From<AllocError> for Fault {
-    ghost from_gives = { λ _ r. r ≡ Memory };
+    ghost from_gives = { λ e r. r ≡ memory e };
 
-    fn from(_error: AllocError) -> Fault {
-        Fault::Memory
+    fn from(error: AllocError) -> Fault {
+        Fault::Memory(error)
     }
 }
 
@@ -54,12 +53,7 @@ impl From<AllocError> for Fault {
 fn check(header: &Header, len: usize) -> Result<(), Refusal>
     ensures { MatchResult result (λ _. first_of (header_faults header.now len) ≡ None) (λ e. first_of (header_faults header.now len) ≡ Some e) }
 {
-    if header.pairs > MAX_PAIRS {
-        return Err(Refusal::BadHeader { place: 4 });
-    }
-    if header.lines > MAX_LINES {
-        return Err(Refusal::BadHeader { place: 6 });
-    }
+    within_limits(header.pairs as usize, header.lines as usize)?;
     let sound = Header::of_file(header.pairs, header.lines);
     if header.pair_table != sound.pair_table {
         return Err(Refusal::BadHeader { place: 8 });

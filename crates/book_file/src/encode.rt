@@ -5,9 +5,8 @@ ghost use Rattle.book_file.specs.Contents.{Encoded, NotEncoded};
 ghost use Rattle.book_file.specs.Layout.{encode_fault, header_of};
 ghost use Rattle.book_file.specs.Writing.{Room, Put};
 
-use super::records::{Header, LineRecord, Record};
+use super::records::{Header, LineRecord, Record, within_limits};
 use super::writer::Writer;
-use grammar::limits::{MAX_LINES, MAX_PAIRS};
 use grammar::refusals::Refusal;
 use grammar::strands::Pair;
 
@@ -15,12 +14,7 @@ use grammar::strands::Pair;
 fn header_for(pairs: usize, lines: usize, room: usize) -> Result<Header, Refusal>
     ensures { MatchResult result (λ h. (encode_fault pairs lines room ≡ None) × (h ≡ header_of pairs lines)) (λ e. encode_fault pairs lines room ≡ Some e) }
 {
-    if pairs > MAX_PAIRS as usize {
-        return Err(Refusal::BadHeader { place: 4 });
-    }
-    if lines > MAX_LINES as usize {
-        return Err(Refusal::BadHeader { place: 6 });
-    }
+    within_limits(pairs, lines)?;
     let header = Header::of_file(pairs as u16, lines as u16);
     if room < header.size as usize {
         return Err(Refusal::TooSmall);
@@ -38,7 +32,8 @@ fn write_all<R: Record>(records: &[R], out: &mut Writer<'_>)
     }
 }
 
-// Writes the file of the pairs and lines at the buffer's beginning, and answers its size.
+// Writes the file of the pairs and lines at the buffer's beginning, and answers its size. The two are slices, so that no
+// caller needs vectors; a struct would only wrap them.
 pub fn encode(pairs: &[Pair], lines: &[LineRecord], buffer: &mut [u8]) -> Result<usize, Refusal>
     ensures { MatchResult result (Encoded pairs.now lines.now buffer.old buffer.new) (NotEncoded pairs.now lines.now buffer.old buffer.new) }
 {

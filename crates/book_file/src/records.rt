@@ -1,10 +1,14 @@
 // The records of a book file: each is taken from the front of its bytes with the rest handed on, and written back.
-ghost use Rattle.std.specs.Prelude.{◌≡◌, ℕ, ◌<◌, List, ◌++◌, length, MatchOption};
-ghost use Rattle.book_file.specs.Layout.{header_of, header_bytes, pair_bytes, line_bytes};
+ghost use Rattle.std.specs.Prelude.{◌≡◌, ℕ, ◌<◌, ◌≤◌, List, ◌++◌, length, Some, MatchOption, MatchResult};
+ghost use Rattle.grammar.specs.Limits.{max_lines, max_pairs};
+ghost use Rattle.grammar.specs.Refusals.{first_of};
+ghost use Rattle.book_file.specs.Layout.{header_of, header_bytes, limit_faults, pair_bytes, line_bytes};
 ghost use Rattle.book_file.specs.Writing.{Room, Put};
 ghost use Rattle.std.proofs.Common.{rules};
 
 use super::writer::Writer;
+use grammar::limits::{MAX_LINES, MAX_PAIRS};
+use grammar::refusals::Refusal;
 use grammar::strands::{Pair, Strand};
 
 // A record of a fixed width.
@@ -14,7 +18,8 @@ pub(crate) trait Record: Copy {
     // the bytes that stand for the record in a file
     ghost bytes: { Self → List ℕ };
 
-    // The first record of the bytes, and the rest; none where they are too few.
+    // The first record of the bytes, and the rest; none where they are too few. Each record writes this as one slice
+    // pattern, which shows its layout.
     fn parse(from: &[u8]) -> Option<(Self, &[u8])>
         ensures { MatchOption result (length from.now < width) (λ found. from.now ≡ bytes found.0 ++ found.1.now) };
 
@@ -52,6 +57,19 @@ impl Header {
             line_table,
         }
     }
+}
+
+// Whether there are no more pairs and lines than there may be, or which field of a header would be wrong.
+pub(crate) fn within_limits(pairs: usize, lines: usize) -> Result<(), Refusal>
+    ensures { MatchResult result (λ _. (pairs ≤ max_pairs) × (lines ≤ max_lines)) (λ e. first_of (limit_faults pairs lines) ≡ Some e) }
+{
+    if pairs > MAX_PAIRS as usize {
+        return Err(Refusal::BadHeader { place: 4 });
+    }
+    if lines > MAX_LINES as usize {
+        return Err(Refusal::BadHeader { place: 6 });
+    }
+    Ok(())
 }
 
 impl Record for Header {

@@ -1,7 +1,7 @@
 // A buffer that the caller lends, written one piece behind the other.
 ghost use Rattle.std.specs.Prelude.{◌≤◌, length};
 
-// The buffer, and the place that is written next.
+// The buffer, and the place that is written next. A slice that shrinks would have to be handed back by each call.
 #[derive(Drop)]
 pub(crate) struct Writer<'a> {
     pub buffer: &'a mut [u8],

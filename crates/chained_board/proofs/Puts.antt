@@ -1,5 +1,5 @@
 -- A point more.
-use Rattle.std.proofs.Common.{◌≡◌, ℕ, ◌+◌, ◌<◌, ◌≤◌, Bool, true, false, cond, eqb, List, [], ◌∷◌, ◌++◌, length, get_or, set, is_some, Some, None, Option, sym, refl, ap, ◌∙◌, ⊎_elim, arith, length-set, below_more}
+use Rattle.std.proofs.Common.{◌≡◌, ℕ, ◌+◌, ◌<◌, ◌≤◌, true, false, cond, eqb, List, [], ◌∷◌, ◌++◌, length, get_or, set, is_some, Some, None, Option, sym, refl, ap, ◌∙◌, ⊎_elim, arith, length-set, below_more}
 use Rattle.std.proofs.lemmas.Bool.Decides.{nat_tests, eqb_tells}
 use Rattle.std.proofs.lemmas.Bool.{cond-true, cond-false}
 use Rattle.std.proofs.lemmas.List.{get_or_push, get_or_append_left, length_push}
@@ -8,10 +8,6 @@ use Rattle.grammar.specs.declared.strands.BackRank.{BackRank}
 use Rattle.chained_board.specs.Chains.{blank, slot_at, newest, row_of, place_of, Filed, Linked}
 use Rattle.chained_board.specs.declared.chained_boards.Slot.{Slot}
 use Rattle.chained_board.proofs.Tables.{set_reads, newest_more, newest_same}
-
--- the points that were there stay on their chains
-pub put_chain : (slots after : List Slot) (p : Slot) (s : ℕ) → after ≡ slots ++ p ∷ [] → s < length slots → (slot_at after s).chain ≡ (slot_at slots s).chain
-put_chain slots after p s is h = ap (λ (xs : List Slot). (slot_at xs s).chain) is ∙ ap (λ (q : Slot). q.chain) (get_or_append_left slots (p ∷ []) blank s h)
 
 pub put_linked : (n : ℕ) (slots : List Slot) (heads : List (Option ℕ)) (p : Slot) → p.chain < n → p.next ≡ get_or heads p.chain None → Linked n slots heads → Linked n (slots ++ p ∷ []) (set heads p.chain (Some (length slots)))
 put_linked n slots heads p low is w =
@@ -53,7 +49,7 @@ put_filed n slots labels p chain label none w =
           (λ k lt.
           let e : (slot_at (slots ++ p ∷ []) k).label.0 ≡ (slot_at slots k).label.0 = ap (λ (q : Slot). q.label.0) (left k lt) in
           let f : get_or labels (slot_at slots k).label.0 None ≡ Some k = w.found k lt in
-          let apart : lab ≡ (slot_at slots k).label.0 → ⊥ = λ same. let q : is_some (get_or labels lab None) ≡ true = ap (λ (l : ℕ). is_some (get_or labels l None)) same ∙ ap is_some f in let z : ◌≡◌ {A = ℕ} 0 1 = cc in omega arith in
+          let apart : lab ≡ (slot_at slots k).label.0 → ⊥ = λ same. let q : is_some (get_or labels lab None) ≡ true = ap (λ (l : ℕ). is_some (get_or labels l None)) same ∙ ap is_some f in cc in
           let r = reads (slot_at slots k).label.0 in
           ap (λ (l : ℕ). get_or (set labels lab (Some m)) l None) e ∙ grind (arith, nat_tests, r, f, apart))
           (let e : (slot_at (slots ++ p ∷ []) m).label.0 ≡ lab = ap (λ (q : Slot). q.label.0) here in
@@ -80,10 +76,7 @@ put_at n slots rows labels p row l label rank w =
     let old : Option (ℕ × ℕ) = place_of slots rows (get_or labels l None) in
     let here : place_of (slots ++ p ∷ []) rows (Some m) ≡ Some (row, p.column.0) = ap (λ (q : Slot). Some (row_of rows q.chain, q.column.0)) (get_or_push slots p blank m refl) ∙ ap (λ (k : ℕ). Some (k, p.column.0)) rank in
     let left : place_of (slots ++ p ∷ []) rows (get_or labels l None) ≡ old = place_left slots rows p (get_or labels l None) (λ s is. (w.named l s is).0) in
-    ap (place_of (slots ++ p ∷ []) rows) (set_reads labels lab l (Some m) None (omega (arith, w.labels_long))) ∙ ⊎_elim
-    (λ e. ap (λ (q : Bool). place_of (slots ++ p ∷ []) rows (cond q (Some m) (get_or labels l None))) e.0 ∙ (here ∙ sym (cond-true (eqb lab l) (Some (row, p.column.0)) old e.0)))
-    (λ e. ap (λ (q : Bool). place_of (slots ++ p ∷ []) rows (cond q (Some m) (get_or labels l None))) e.0 ∙ (left ∙ sym (cond-false (eqb lab l) (Some (row, p.column.0)) old e.0)))
-    (eqb_tells lab l)
+    ap (place_of (slots ++ p ∷ []) rows) (set_reads labels lab l (Some m) None (omega (arith, w.labels_long))) ∙ grind (arith, nat_tests, here, left)
 
 pub place_some : (slots : List Slot) (rows : List BackRank) (o : Option ℕ) → is_some (place_of slots rows o) ≡ is_some o
 place_some slots rows None = refl

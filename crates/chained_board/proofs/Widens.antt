@@ -6,79 +6,95 @@ use Rattle.std.proofs.lemmas.List.Edits.{length-insert, get_or-insert_below, get
 use Rattle.std.specs.List.{insert}
 use Rattle.grammar.specs.Limits.{max_strands}
 use Rattle.grammar.specs.declared.strands.BackRank.{BackRank}
-use Rattle.board.specs.Meaning.{moved, moved_point}
+use Rattle.board.specs.Meaning.{moved, held_rank, moved_point}
 use Rattle.board.proofs.Parts.{map_same}
 use Rattle.board.proofs.Meanings.{moved_below, moved_above, moved_most, held_is_moved}
-use Rattle.chained_board.specs.Chains.{blank, slot_at, row_of, newest, place_of, row_moved, column_moved, Paired, Filed, Linked}
+use Rattle.chained_board.specs.Chains.{blank, slot_at, rows_of, heads_of, row_of, newest, place_of, Paired, Filed, Linked}
+use Rattle.chained_board.specs.declared.chained_boards.Chain.{Chain}
 use Rattle.chained_board.specs.declared.chained_boards.Slot.{Slot}
-use Rattle.chained_board.proofs.Tables.{newest_same, newest_none}
+use Rattle.chained_board.proofs.Tables.{unborn, row_is, newest_same, newest_none}
+
+-- a chain and a slot, after a row or a column is opened
+abbrev pub row_moved : ℕ → Chain → Chain
+row_moved place chain = record { row = record { 0 = held_rank place chain.row.0 }; head = chain.head }
+
+abbrev pub column_moved : ℕ → Slot → Slot
+column_moved place slot = record { chain = slot.chain; column = record { 0 = held_rank place slot.column.0 }; label = slot.label; next = slot.next }
 
 -- ranks below the limit do not reach the end of their type
 abbrev pub opened : ℕ → BackRank → BackRank
 opened a row = record { 0 = moved a row.0 }
 
+abbrev pub pushed : ℕ → Chain → Chain
+pushed a chain = record { row = opened a chain.row; head = chain.head }
+
 abbrev pub shifted : ℕ → Slot → Slot
 shifted b slot = record { chain = slot.chain; column = record { 0 = moved b slot.column.0 }; label = slot.label; next = slot.next }
 
-row_fits : (a : ℕ) (row : BackRank) → row.0 < max_strands → row_moved a row ≡ opened a row
-row_fits a row low = ap (λ (k : ℕ). record { 0 = k }) (held_is_moved a row.0 low)
+chain_fits : (a : ℕ) (chain : Chain) → chain.row.0 < max_strands → row_moved a chain ≡ pushed a chain
+chain_fits a chain low = ap (λ (k : ℕ). record { row = record { 0 = k }; head = chain.head }) (held_is_moved a chain.row.0 low)
 
 column_fits : (b : ℕ) (slot : Slot) → slot.column.0 < max_strands → column_moved b slot ≡ shifted b slot
 column_fits b slot low = ap (λ (k : ℕ). record { chain = slot.chain; column = record { 0 = k }; label = slot.label; next = slot.next }) (held_is_moved b slot.column.0 low)
 
-pub rows_fit : (a : ℕ) (rows : List BackRank) → ((c : ℕ) → c < length rows → row_of rows c < max_strands) → map (row_moved a) rows ≡ map (opened a) rows
-rows_fit a rows low = map_same (row_moved a) (opened a) rows (record { 0 = 0 }) (λ c h. row_fits a (get_or rows c (record { 0 = 0 })) (low c h))
+pub chains_fit : (a : ℕ) (chains : List Chain) → ((c : ℕ) → c < length chains → row_of (rows_of chains) c < max_strands) → map (row_moved a) chains ≡ map (pushed a) chains
+chains_fit a chains low = map_same (row_moved a) (pushed a) chains unborn (λ c h. chain_fits a (get_or chains c unborn) (omega (arith, row_is chains c h, low c h)))
 
 pub columns_fit : (b : ℕ) (slots : List Slot) → ((s : ℕ) → s < length slots → (slot_at slots s).column.0 < max_strands) → map (column_moved b) slots ≡ map (shifted b) slots
 columns_fit b slots low = map_same (column_moved b) (shifted b) slots blank (λ s h. column_fits b (slot_at slots s) (low s h))
+
+-- the rows and the newest slots of the chains, with one more
+pub rows_wider : (a : ℕ) (chains : List Chain) → rows_of (map (pushed a) chains ++ record { row = record { 0 = a }; head = None } ∷ []) ≡ map (opened a) (rows_of chains) ++ record { 0 = a } ∷ []
+rows_wider a [] = refl
+rows_wider a (chain ∷ chains) = ap (λ (rows : List BackRank). opened a chain.row ∷ rows) (rows_wider a chains)
+
+pub heads_wider : (a : ℕ) (chains : List Chain) → heads_of (map (pushed a) chains ++ record { row = record { 0 = a }; head = None } ∷ []) ≡ heads_of chains ++ None ∷ []
+heads_wider a [] = refl
+heads_wider a (chain ∷ chains) = ap (λ (heads : List (Option ℕ)). chain.head ∷ heads) (heads_wider a chains)
 
 row_left : (n : ℕ) (rows : List BackRank) (a c : ℕ) → length rows ≡ n → c < n → row_of (map (opened a) rows ++ record { 0 = a } ∷ []) c ≡ moved a (row_of rows c)
 row_left n rows a c long h =
     let blank_row : BackRank = record { 0 = 0 } in
     ap (λ (r : BackRank). r.0) (get_or_append_left (map (opened a) rows) (record { 0 = a } ∷ []) blank_row c (omega (arith, length-map rows (opened a))) ∙ get_or-map (opened a) rows c blank_row blank_row (omega arith))
 
-pub widen_paired : (n : ℕ) (chains : List ℕ) (rows : List BackRank) (a : ℕ) → a ≤ n → Paired n chains rows → Paired (n + 1) (insert chains a n) (map (opened a) rows ++ record { 0 = a } ∷ [])
-widen_paired n chains rows a le w =
-    let fits : a ≤ length chains = omega (arith, w.chains_long) in
+pub widen_paired : (n : ℕ) (order : List ℕ) (rows : List BackRank) (a : ℕ) → a ≤ n → Paired n order rows → Paired (n + 1) (insert order a n) (map (opened a) rows ++ record { 0 = a } ∷ [])
+widen_paired n order rows a le w =
+    let fits : a ≤ length order = omega (arith, w.order_long) in
     let rows' : List BackRank = map (opened a) rows ++ record { 0 = a } ∷ [] in
-    let chains' : List ℕ = insert chains a n in
+    let order' : List ℕ = insert order a n in
     let row : (c : ℕ) → c < n → row_of rows' c ≡ moved a (row_of rows c) = λ c h. row_left n rows a c w.rows_long h in
     let row_new : row_of rows' n ≡ a = ap (λ (r : BackRank). r.0) (get_or_push (map (opened a) rows) (record { 0 = a }) (record { 0 = 0 }) n (length-map rows (opened a) ∙ w.rows_long)) in
-    let below : (r : ℕ) → r < a → get_or chains' r 0 ≡ get_or chains r 0 = λ r h. get_or-insert_below chains a n 0 r h fits in
-    let at : get_or chains' a 0 ≡ n = get_or-insert_at chains a n 0 fits in
-    let above : (r : ℕ) → a ≤ r → get_or chains' (r + 1) 0 ≡ get_or chains r 0 = λ r h. get_or-insert_above chains a n 0 r h fits in
+    let below : (r : ℕ) → r < a → get_or order' r 0 ≡ get_or order r 0 = λ r h. get_or-insert_below order a n 0 r h fits in
+    let at : get_or order' a 0 ≡ n = get_or-insert_at order a n 0 fits in
+    let above : (r : ℕ) → a ≤ r → get_or order' (r + 1) 0 ≡ get_or order r 0 = λ r h. get_or-insert_above order a n 0 r h fits in
     record {
-      chains_long = length-insert chains a n fits ∙ ap (λ (k : ℕ). k + 1) w.chains_long;
+      order_long = length-insert order a n fits ∙ ap (λ (k : ℕ). k + 1) w.order_long;
       rows_long = length_push (map (opened a) rows) (record { 0 = a }) ∙ ap (λ (k : ℕ). k + 1) (length-map rows (opened a) ∙ w.rows_long);
       chain_low = λ r h. ⊎_elim
-          (λ same. omega (arith, ap (λ (k : ℕ). get_or chains' k 0) same, at))
+          (λ same. omega (arith, ap (λ (k : ℕ). get_or order' k 0) same, at))
           (⊎_elim
           (λ lt. omega (arith, below r lt, w.chain_low r (omega arith)))
-          (λ gt. let k : ((r - 1) + 1) ≡ r = omega arith in omega (arith, ap (λ (j : ℕ). get_or chains' j 0) k, above (r - 1) (omega arith), w.chain_low (r - 1) (omega arith))))
+          (λ gt. let k : ((r - 1) + 1) ≡ r = omega arith in omega (arith, ap (λ (j : ℕ). get_or order' j 0) k, above (r - 1) (omega arith), w.chain_low (r - 1) (omega arith))))
           (cases_order r a);
       row_low = λ c h. below_more (λ (k : ℕ). row_of rows' k < n + 1) n (λ k lt. omega (arith, row k lt, moved_most a (row_of rows k), w.row_low k lt)) (omega (arith, row_new)) c h;
       back = λ r h. ⊎_elim
-          (λ same. ap (λ (k : ℕ). row_of rows' (get_or chains' k 0)) same ∙ (ap (λ (k : ℕ). row_of rows' k) at ∙ (row_new ∙ sym same)))
+          (λ same. ap (λ (k : ℕ). row_of rows' (get_or order' k 0)) same ∙ (ap (λ (k : ℕ). row_of rows' k) at ∙ (row_new ∙ sym same)))
           (⊎_elim
-          (λ lt. ap (λ (k : ℕ). row_of rows' k) (below r lt) ∙ (row (get_or chains r 0) (w.chain_low r (omega arith)) ∙ (ap (moved a) (w.back r (omega arith)) ∙ moved_below a r lt)))
+          (λ lt. ap (λ (k : ℕ). row_of rows' k) (below r lt) ∙ (row (get_or order r 0) (w.chain_low r (omega arith)) ∙ (ap (moved a) (w.back r (omega arith)) ∙ moved_below a r lt)))
           (λ gt. let q : ℕ = r - 1 in let k : q + 1 ≡ r = omega arith in
-          ap (λ (j : ℕ). row_of rows' (get_or chains' j 0)) (sym k) ∙ (ap (λ (j : ℕ). row_of rows' j) (above q (omega arith)) ∙ (row (get_or chains q 0) (w.chain_low q (omega arith)) ∙ (ap (moved a) (w.back q (omega arith)) ∙ (moved_above a q (omega arith) ∙ k))))))
+          ap (λ (j : ℕ). row_of rows' (get_or order' j 0)) (sym k) ∙ (ap (λ (j : ℕ). row_of rows' j) (above q (omega arith)) ∙ (row (get_or order q 0) (w.chain_low q (omega arith)) ∙ (ap (moved a) (w.back q (omega arith)) ∙ (moved_above a q (omega arith) ∙ k))))))
           (cases_order r a);
-      forth = λ c h. below_more (λ (k : ℕ). get_or chains' (row_of rows' k) 0 ≡ k) n
+      forth = λ c h. below_more (λ (k : ℕ). get_or order' (row_of rows' k) 0 ≡ k) n
           (λ k lt. let x : ℕ = row_of rows k in
-          ap (λ (j : ℕ). get_or chains' j 0) (row k lt) ∙ ⊎_elim
-          (λ l. ap (λ (j : ℕ). get_or chains' j 0) (moved_below a x l) ∙ (below x l ∙ w.forth k lt))
-          (λ g. ap (λ (j : ℕ). get_or chains' j 0) (moved_above a x g) ∙ (above x g ∙ w.forth k lt))
+          ap (λ (j : ℕ). get_or order' j 0) (row k lt) ∙ ⊎_elim
+          (λ l. ap (λ (j : ℕ). get_or order' j 0) (moved_below a x l) ∙ (below x l ∙ w.forth k lt))
+          (λ g. ap (λ (j : ℕ). get_or order' j 0) (moved_above a x g) ∙ (above x g ∙ w.forth k lt))
           (cases_lt x a))
-          (ap (λ (j : ℕ). get_or chains' j 0) row_new ∙ at) c h;
+          (ap (λ (j : ℕ). get_or order' j 0) row_new ∙ at) c h;
     }
 
 slot_shifted : (slots : List Slot) (b s : ℕ) → s < length slots → slot_at (map (shifted b) slots) s ≡ shifted b (slot_at slots s)
 slot_shifted slots b s h = get_or-map (shifted b) slots s blank blank h
-
--- every point stays on its chain
-pub widen_chain : (slots after : List Slot) (b s : ℕ) → after ≡ map (shifted b) slots → s < length slots → (slot_at after s).chain ≡ (slot_at slots s).chain
-widen_chain slots after b s is h = ap (λ (xs : List Slot). (slot_at xs s).chain) is ∙ ap (λ (q : Slot). q.chain) (slot_shifted slots b s h)
 
 pub widen_filed : (n b : ℕ) (slots : List Slot) (labels : List (Option ℕ)) → Filed n slots labels → Filed (n + 1) (map (shifted b) slots) labels
 widen_filed n b slots labels w =

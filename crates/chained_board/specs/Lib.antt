@@ -1,2 +1,3 @@
+pub mod Boards
 pub mod Chains
 pub mod Laws

@@ -1,12 +1,13 @@
 // The chained board and its calls.
-ghost use Rattle.std.specs.Prelude.{◌≡◌, IfOk};
-ghost use Rattle.grammar.specs.Limits.{max_pairs};
+ghost use Rattle.std.specs.Prelude.{◌≡◌, ◌≤◌, IfOk, vec_items, vec_capacity};
+ghost use Rattle.grammar.specs.Limits.{max_pairs, max_strands};
 ghost use Rattle.board.specs.Meaning.{clean};
-ghost use Rattle.chained_board.specs.Chains.{Whole, Stays, meaning, row_moved, column_moved};
+ghost use Rattle.chained_board.specs.Chains.{Sound};
 
 use board::Board;
-use board::changes::{Change, change_each, moved_up};
-use board::rectangles::{Rectangle, lowest_hit};
+use board::changes::{change_each, moved_up};
+use board::points::Point;
+use board::rectangles::{Rectangle, lowest_of};
 use board::sizes::Size;
 use grammar::limits::{BYTE_STRANDS, MAX_PAIRS, MAX_STRANDS};
 use grammar::refusals::Refusal;
@@ -23,90 +24,76 @@ struct Slot {
     next: Option<usize>,
 }
 
+// The row that a chain stands in, and its newest slot.
+#[derive(Clone, Copy)]
+struct Chain {
+    row: BackRank,
+    head: Option<usize>,
+}
+
 // A chain has the same number for good, and two tables tell which row it stands in. A label's point is found by its
-// slot, its chain and the chain's row, with no walk.
+// slot, its chain and the chain's row, with no walk. Slots are named by index, and all tables have their memory from the
+// making on, so that no call can fail for want of it.
 #[derive(Drop)]
 pub struct ChainedBoard {
     // the points, in the order put
     slots: Vec<Slot>,
     // the chain of each row
-    chains: Vec<usize>,
-    // the row of each chain
-    rows: Vec<BackRank>,
-    // the newest slot of each chain
-    heads: Vec<Option<usize>>,
+    order: Vec<usize>,
+    // the chains by number
+    chains: Vec<Chain>,
     // the slot of each label
     labels: Vec<Option<usize>>,
     columns: u16,
+    // there is room for all that may come
+    pub ghost slot_room: { max_pairs ≤ vec_capacity slots },
+    pub ghost order_room: { max_strands ≤ vec_capacity order },
+    pub ghost chain_room: { max_strands ≤ vec_capacity chains },
+    // the tables agree, and mean a board
+    pub ghost sound: { Sound (record { slots = vec_items slots; order = vec_items order; chains = vec_items chains; labels = vec_items labels }) columns },
 }
 
 impl ChainedBoard {
+    ghost use Rattle.chained_board.specs.Boards.{meaning};
+
     // A clean board, with all the memory that it will ever need.
     pub fn new(heap: Global) -> Result<ChainedBoard, AllocError>
-        ensures { IfOk result (λ b. Whole b × (meaning b ≡ clean max_pairs)) }
+        ensures { IfOk result (λ b. meaning b ≡ clean max_pairs) }
     {
         let slots = Vec::with_capacity(heap, MAX_PAIRS as usize)?;
+        let mut order = Vec::with_capacity(heap, MAX_STRANDS as usize)?;
         let mut chains = Vec::with_capacity(heap, MAX_STRANDS as usize)?;
-        let mut rows = Vec::with_capacity(heap, MAX_STRANDS as usize)?;
-        let mut heads = Vec::with_capacity(heap, MAX_STRANDS as usize)?;
         let labels = vec![in heap; None; MAX_STRANDS as usize]?;
+        // one by one into the room taken: both tables get an element for each row
         for row in 0..BYTE_STRANDS {
-            chains.push_reserved(row as usize);
-            rows.push_reserved(BackRank(row));
-            heads.push_reserved(None);
+            order.push_reserved(row as usize);
+            chains.push_reserved(Chain {
+                row: BackRank(row),
+                head: None,
+            });
         }
         Ok(ChainedBoard {
             slots,
+            order,
             chains,
-            rows,
-            heads,
             labels,
             columns: BYTE_STRANDS,
         })
     }
 }
 
-// Opens a row: chains in it or past it stand one row further.
-#[derive(Clone, Copy)]
-struct OpenRow(BackRank);
-
-impl Change<BackRank> for OpenRow {
-    ghost made = { λ o. row_moved o.0.0 };
-
-    fn change(&self, row: BackRank) -> BackRank {
-        BackRank(moved_up(row.0, self.0.0))
-    }
-}
-
-// Opens a column: points in it or past it stand one column further.
-#[derive(Clone, Copy)]
-struct OpenColumn(ForeRank);
-
-impl Change<Slot> for OpenColumn {
-    ghost made = { λ o. column_moved o.0.0 };
-
-    fn change(&self, slot: Slot) -> Slot {
-        Slot {
-            chain: slot.chain,
-            column: ForeRank(moved_up(slot.column.0, self.0.0)),
-            label: slot.label,
-            next: slot.next,
-        }
-    }
-}
-
 impl Board for ChainedBoard {
+    ghost use Rattle.chained_board.specs.Boards.{meaning, Stays};
+
     ghost means = { meaning };
-
-    ghost ok = { Whole };
-
-    ghost proper = { λ _ whole. whole.sound.proper };
 
     ghost keeps = { Stays };
 
+    ghost proper = { λ b. b.sound.proper };
+
     fn size(&self) -> Size {
         Size {
-            rows: self.chains.len() as u16,
+            rows: self.order.len() as u16,
             columns: self.columns,
             points: self.slots.len() as u16,
             capacity: MAX_PAIRS,
@@ -114,70 +101,68 @@ impl Board for ChainedBoard {
     }
 
     fn widen(&mut self, row: BackRank, column: ForeRank) -> Result<(), Refusal> {
-        let rows = self.chains.len();
-        if rows >= MAX_STRANDS as usize || self.columns >= MAX_STRANDS {
-            return Err(Refusal::BoardAtLimit);
-        }
-        if row.0 as usize > rows || column.0 > self.columns {
-            return Err(Refusal::OffBoard);
-        }
-        change_each(&mut self.rows, &OpenRow(row));
-        self.rows.push_reserved(row);
-        self.heads.push_reserved(None);
+        self.size().may_widen(row, column)?;
+        change_each(
+            &mut self.chains,
+            |chain| Chain {
+                row: moved_up(chain.row, row),
+                ..chain
+            },
+        );
+        let opened = self.chains.len();
+        self.chains.push_reserved(Chain { row, head: None });
         // there is room: it was taken when the board was made
-        let _ = self.chains.insert(row.0 as usize, rows);
-        change_each(&mut self.slots, &OpenColumn(column));
+        self.order.insert(row.0 as usize, opened).unwrap();
+        change_each(
+            &mut self.slots,
+            |slot| Slot {
+                column: moved_up(slot.column, column),
+                ..slot
+            },
+        );
         self.columns += 1;
         Ok(())
     }
 
-    fn put(&mut self, row: BackRank, column: ForeRank, label: Strand) -> Result<(), Refusal> {
-        if row.0 as usize >= self.chains.len() || column.0 >= self.columns {
-            return Err(Refusal::OffBoard);
-        }
-        if label.0 >= MAX_STRANDS || self.locate(label).is_some() {
-            return Err(Refusal::LabelTaken);
-        }
+    fn put(&mut self, point: Point) -> Result<(), Refusal> {
+        self.size().may_put(point, self.locate(point.label))?;
         let slot = self.slots.len();
-        if slot >= MAX_PAIRS as usize {
-            return Err(Refusal::BoardFull);
-        }
-        let chain = self.chains[row.0 as usize];
-        let next = self.heads[chain];
+        let chain = self.order[point.row.0 as usize];
+        let next = self.chains[chain].head.replace(slot);
         self.slots.push_reserved(Slot {
             chain,
-            column,
-            label,
+            column: point.column,
+            label: point.label,
             next,
         });
-        self.heads[chain] = Some(slot);
-        self.labels[label.0 as usize] = Some(slot);
+        self.labels[point.label.0 as usize] = Some(slot);
         Ok(())
     }
 
     fn locate(&self, label: Strand) -> Option<(BackRank, ForeRank)> {
+        // `get` would hand out an option behind a reference inside an option
         if label.0 >= MAX_STRANDS {
             return None;
         }
-        let Some(slot) = self.labels[label.0 as usize] else {
-            return None;
-        };
-        let point = self.slots[slot];
-        Some((self.rows[point.chain], point.column))
+        let slot = self.slots[self.labels[label.0 as usize]?];
+        Some((self.chains[slot.chain].row, slot.column))
     }
 
     fn first(&self, within: Rectangle, floor: Strand) -> Option<Strand> {
-        let mut least: Option<Strand> = None;
-        let rows = self.chains.len() as u16;
-        let bottom = within.bottom.0.min(rows);
-        'rows: for row in within.top.0..bottom {
-            let chain = self.chains[row as usize];
-            let mut next = self.heads[chain];
+        let bottom = (within.bottom.0 as usize).min(self.order.len());
+        let top = (within.top.0 as usize).min(bottom);
+        let mut least = None;
+        'rows: for chain in &self.order[top..bottom] {
+            let Chain { row, head } = self.chains[*chain];
+            let mut next = head;
+            // from slot to slot along the chain, the newest first; both loops have labels, by which the proofs name them
             'points: while let Some(slot) = next {
-                let point = self.slots[slot];
-                let hit = within.is_hit(floor, BackRank(row), point.column, point.label);
-                least = lowest_hit(least, hit, point.label);
-                next = point.next;
+                let slot = self.slots[slot];
+                let Slot { column, label, .. } = slot;
+                if within.is_hit(floor, Point { row, column, label }) {
+                    least = lowest_of(least, label);
+                }
+                next = slot.next;
             }
         }
         least

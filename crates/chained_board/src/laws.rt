@@ -1,7 +1,7 @@
 // A law of the chained board's tables, as what a function ensures, so that the check asks for its proof.
 ghost use Rattle.chained_board.specs.Laws.{CleanTables};
 
-// What every call asks of the tables can be met: there are tables of a clean board.
+// What holds of the tables of every board can be met: there are tables of a clean board.
 pub fn clean_tables_are_sound()
     ensures { CleanTables }
 {}

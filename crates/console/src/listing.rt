@@ -73,6 +73,6 @@ pub fn listing(heap: Global, file: &[u8]) -> Result<String, AllocError>
     match decode(heap, file) {
         Ok(content) => ContentText(&content).to_string(heap),
         Err(Fault::Refused(refusal)) => RefusalRow(refusal).to_string(heap),
-        Err(Fault::Memory) => Err(AllocError),
+        Err(Fault::Memory(error)) => Err(error),
     }
 }

@@ -40,6 +40,7 @@ fn tells<R: Abort + AllocGlobal>(rt: &R, file: &[u8], expected: &str) -> Result<
 
 #[test]
 fn every_cut_is_short_at_its_byte_count(rt: HostRuntime) -> Result<(), Fail> {
+    // each length is a case of its own
     for cut in 0..SAMPLE.len() {
         let expected = format!(in rt.alloc(); "no 2 16 {cut}\n")?;
         tells(&rt, &SAMPLE[..cut], expected.as_str())?;

@@ -3,7 +3,7 @@ use grammar::refusals::Refusal;
 
 #[test]
 fn refusals_tell_layer_number_and_place(rt: HostRuntime) {
-    // layer, number, place, refusal
+    // layer, number and place, as users see them, and the refusal
     let rows = [
         (0, 1, 0, Refusal::OffBoard),
         (0, 2, 0, Refusal::LabelTaken),

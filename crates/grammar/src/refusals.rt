@@ -2,25 +2,20 @@
 ghost use Rattle.std.specs.Prelude.{◌≡◌};
 ghost use Rattle.grammar.specs.Refusals.{number_of, layer_of, layer_number, place_of};
 
-// The part of the program that declines.
+// The part of the program that declines, with its number.
 #[derive(Clone, Copy, PartialEq, Eq, Debug)]
 pub enum Layer {
-    Board,
-    Book,
-    File,
-    Console,
+    Board = 0,
+    Book = 1,
+    File = 2,
+    Console = 3,
 }
 
 impl Layer {
     pub fn number(self) -> u8
         ensures { result ≡ layer_number self }
     {
-        match self {
-            Layer::Board => 0,
-            Layer::Book => 1,
-            Layer::File => 2,
-            Layer::Console => 3,
-        }
+        self as u8
     }
 }
 
@@ -68,6 +63,7 @@ pub enum Refusal {
 }
 
 impl Refusal {
+    // The number that users see, written out: a case that holds a place cannot have one in the enum.
     pub fn number(self) -> u8
         ensures { result ≡ number_of self }
     {
@@ -97,11 +93,24 @@ impl Refusal {
     pub fn layer(self) -> Layer
         ensures { result ≡ layer_of self }
     {
-        match self.number() {
-            1..=4 => Layer::Board,
-            15..=18 => Layer::File,
-            19 => Layer::Console,
-            _ => Layer::Book,
+        match self {
+            Refusal::OffBoard | Refusal::LabelTaken | Refusal::BoardFull | Refusal::BoardAtLimit =>
+                Layer::Board,
+            Refusal::BookDead
+            | Refusal::HuntOpen
+            | Refusal::NoStrand { .. }
+            | Refusal::BookFull
+            | Refusal::TapeTooLong
+            | Refusal::NoHunt
+            | Refusal::Spent
+            | Refusal::PastTape
+            | Refusal::TooSmall
+            | Refusal::BadPattern => Layer::Book,
+            Refusal::NotNewborn
+            | Refusal::FileShort { .. }
+            | Refusal::BadHeader { .. }
+            | Refusal::BadLine { .. } => Layer::File,
+            Refusal::BadCommand { .. } => Layer::Console,
         }
     }
 

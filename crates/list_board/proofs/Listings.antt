@@ -1,22 +1,20 @@
 -- What each call makes of a list board: it stays whole, and its meaning changes as the rules say.
-use Rattle.std.proofs.Common.{◌≡◌, ℕ, ◌-◌, ◌<◌, min, false, cond, eqb, List, ◌++◌, map, length, get_or, take, drop, is_some, Some, sym, refl, ap, ◌∙◌, ⊎_elim, arith, length-set}
+use Rattle.std.proofs.Common.{◌≡◌, ℕ, ◌+◌, ◌-◌, ◌<◌, min, false, cond, eqb, List, ◌++◌, map, length, get_or, take, drop, is_some, Some, Ok, Err, inl, inr, sym, refl, ap, ◌∙◌, ⊎_elim, arith, length-set}
 use mathlib.Core.Path.{fun_ext}
 use Rattle.std.proofs.lemmas.List.{take_more_set, take_at, take_all, get_or-take, length-map, length-append, length-take, length-take-le, length-drop}
 use Rattle.std.proofs.lemmas.Bool.{cases_lt}
 use Rattle.std.specs.Option.{option_map}
 use Rattle.grammar.specs.Limits.{max_strands}
+use Rattle.grammar.specs.declared.refusals.Refusal.TheVariants.{OffBoard}
 use Rattle.grammar.specs.declared.strands.Strand.{Strand}
 use Rattle.board.specs.Answering.{Locates, ranked}
-use Rattle.board.specs.Meaning.{clean, placed, widened, moved_point}
+use Rattle.board.specs.Meaning.{count, placed, widened, moved_point}
 use Rattle.board.proofs.Meanings.{clean_proper, count-clean, placed_as, widened_as}
-use Rattle.list_board.specs.declared.points.Point.{Point}
-use Rattle.list_board.specs.Listing.{Listing, Whole, IndexOf, records, place_in, zero_point, distinct, meaning, fresh, with_point, with_opening, moved_record, held_point}
+use Rattle.board.specs.declared.points.Point.{Point}
+use Rattle.list_board.specs.Listing.{Listing, Whole, Follows, IndexOf, records, place_in, zero_point, distinct, meaning, fresh, with_point, with_opening, moved_record, held_point}
 use Rattle.list_board.proofs.Places.{place_more, distinct_more, place_moved, distinct_moved, held_are_moved, place_of}
 
 -- a new board
-pub fresh_meaning : (table : List Point) → meaning (fresh table) ≡ clean (min (length table) max_strands)
-fresh_meaning table = ap clean (length-take max_strands table ∙ omega arith)
-
 pub fresh_whole : (table : List Point) → Whole (fresh table)
 fresh_whole table =
     record {
@@ -74,12 +72,52 @@ open_whole b row column rows columns whole =
       proper = held.1;
     }
 
+-- a row and a column more, with every point where it was
+abbrev pub roomier : Listing → Listing
+roomier b = record { table = b.table; filled = b.filled; rows = b.rows + 1; columns = b.columns + 1 }
+
+count_roomier : (b : Listing) → count (meaning (roomier b)) ≡ count (meaning b)
+unfolding count
+count_roomier b = refl
+
+pub roomier_whole : (b : Listing) → b.rows < max_strands → b.columns < max_strands → Whole b → Whole (roomier b)
+roomier_whole b rows columns whole =
+    let same = count_roomier b in
+    let w = whole.proper in
+    record {
+      fits = whole.fits;
+      once = whole.once;
+      counted = same ∙ whole.counted;
+      proper =
+          record {
+            rows_few = omega arith;
+            columns_few = omega arith;
+            capacity_few = w.capacity_few;
+            points_few = omega (arith, same, w.points_few);
+            labels_low = w.labels_low;
+            on_board = λ label row column at. let on = w.on_board label row column at in (omega (arith, on.0), omega (arith, on.1));
+          };
+    }
+
 -- the table after each filled record is changed
 pub open_table : (b : Listing) (row column : ℕ) (front : List Point) → Whole b → front ≡ map (held_point row column) (take (b.filled - 0) b.table) → front ++ drop (b.filled - 0) b.table ≡ (with_opening b row column).table
 open_table b row column front whole is =
     let same : b.filled - 0 ≡ b.filled = omega arith in
     let held : map (held_point row column) (records b) ≡ map (moved_record row column) (records b) = held_are_moved row column (records b) whole.once (λ label r c at. let on = whole.proper.on_board label r c at in (omega (arith, on.0, whole.proper.rows_few), omega (arith, on.1, whole.proper.columns_few))) in
     cc
+
+-- the board after each filled record is changed
+pub opened : (b : Listing) (row column : ℕ) (front : List Point) → Whole b → front ≡ map (held_point row column) (take (b.filled - 0) b.table) → record { table = front ++ drop (b.filled - 0) b.table; filled = b.filled; rows = b.rows + 1; columns = b.columns + 1 } ≡ with_opening b row column
+opened b row column front whole is =
+    let with_table : List Point → Listing = λ t. record { table = t; filled = b.filled; rows = b.rows + 1; columns = b.columns + 1 } in
+    ap with_table (open_table b row column front whole is)
+
+-- what a call keeps, by what it leaves
+pub stays : (b : Listing) → Follows b b
+stays b = (Err OffBoard, inl (zero_point, refl))
+
+pub follows_opening : (b after : Listing) (row column : ℕ) → after ≡ with_opening b row column → Follows b after
+follows_opening b after row column e = (Ok tt, inr (row, (column, e)))
 
 -- the record at a label's index tells where its point stands
 pub located : (b : Listing) (label : Strand) (i : ℕ) → Whole b → IndexOf (records b) label.0 (Some i) → Locates (meaning b) label (Some ((get_or b.table i zero_point).row, (get_or b.table i zero_point).column))

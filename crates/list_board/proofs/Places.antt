@@ -1,13 +1,13 @@
 -- Where the points of a list of records stand.
-use Rattle.std.proofs.Common.{◌≡◌, ℕ, zero, suc, ◌<◌, Bool, true, false, cond, eqb, List, [], ◌∷◌, ◌++◌, map, length, get_or, take, is_some, Some, None, Option, sym, refl, ap, ◌∙◌, le_of_suc-le-suc, not-suc-le-zero, arith}
+use Rattle.std.proofs.Common.{◌≡◌, ℕ, zero, suc, ◌<◌, Bool, true, false, cond, eqb, List, [], ◌∷◌, ◌++◌, map, length, get_or, take, is_some, Some, Option, sym, refl, ap, ◌∙◌, le_of_suc-le-suc, not-suc-le-zero, arith}
 use Rattle.std.proofs.lemmas.Bool.Decides.{nat_tests}
 use Rattle.std.proofs.lemmas.Bool.{cond-true, cond-false, eq-eqb, ne_eqb}
 use Rattle.grammar.specs.Limits.{max_strands}
 use Rattle.board.specs.Meaning.{moved, moved_point}
 use Rattle.board.proofs.Parts.{map_same}
 use Rattle.board.proofs.Meanings.{some_moved, held_is_moved}
-use Rattle.list_board.specs.declared.points.Point.{Point}
-use Rattle.list_board.specs.Listing.{place_in, IndexOf, distinct, moved_record, held_point, zero_point}
+use Rattle.board.specs.declared.points.Point.{Point}
+use Rattle.list_board.specs.Listing.{place_in, distinct, moved_record, held_point, zero_point}
 
 -- a record more, behind the others
 pub place_more : (ps : List Point) (p : Point) (label : ℕ) → is_some (place_in ps p.label.0) ≡ false → place_in (ps ++ p ∷ []) label ≡ cond (eqb p.label.0 label) (Some (p.row.0, p.column.0)) (place_in ps label)
@@ -45,8 +45,7 @@ apart : (ps : List Point) (p : Point) (label : ℕ) (place : ℕ × ℕ) → dis
 apart ps p label place once is same =
     let none : is_some (place_in ps p.label.0) ≡ false = grind (arith, nat_tests, once) in
     let z : true ≡ false = sym (ap is_some is) ∙ (ap (λ (k : ℕ). is_some (place_in ps k)) (sym same) ∙ none) in
-    let y : ◌≡◌ {A = ℕ} 0 1 = cc in
-    omega arith
+    cc
 
 skipped : (ps : List Point) (p : Point) (label : ℕ) (place : ℕ × ℕ) → distinct (p ∷ ps) ≡ true → place_in ps label ≡ Some place → place_in (p ∷ ps) label ≡ place_in ps label
 skipped ps p label place once is = cond-false (eqb p.label.0 label) (Some (p.row.0, p.column.0)) (place_in ps label) (ne_eqb p.label.0 label (apart ps p label place once is))
@@ -67,10 +66,6 @@ free_before (p ∷ ps) (suc i) d once h =
     let rest : distinct ps ≡ true = grind (arith, nat_tests, once) in
     let other : eqb p.label.0 label ≡ false = ne_eqb p.label.0 label (apart ps p label ((get_or ps i d).row.0, (get_or ps i d).column.0) once (place_of ps i d rest (le_of_suc-le-suc h))) in
     ap is_some (cond-false (eqb p.label.0 label) (Some (p.row.0, p.column.0)) (place_in (take i ps) label) other) ∙ free_before ps i d rest (le_of_suc-le-suc h)
-
-pub index_stands : (ps : List Point) (label : ℕ) (answer : Option ℕ) → distinct ps ≡ true → IndexOf ps label answer → is_some (place_in ps label) ≡ is_some answer
-index_stands ps label None once is = ap is_some is
-index_stands ps label (Some i) once is = ap (λ (k : ℕ). is_some (place_in ps k)) (sym is.1) ∙ ap is_some (place_of ps i zero_point once is.0)
 
 -- on ranks within the limit no rank is held
 pub held_are_moved : (row column : ℕ) (ps : List Point) → distinct ps ≡ true → ((label r c : ℕ) → place_in ps label ≡ Some (r, c) → (r < max_strands) × (c < max_strands)) → map (held_point row column) ps ≡ map (moved_record row column) ps

@@ -3,8 +3,7 @@ use Rattle.std.specs.Prelude.{◌≡◌, ℕ, ◌+◌, ◌<◌, ◌≤◌, Bool,
 use Rattle.grammar.specs.Limits.{byte_strand_count, max_strands}
 use Rattle.grammar.specs.declared.refusals.Refusal.{Refusal}
 use Rattle.board.specs.Meaning.{Meaning, Proper, count, moved, held_rank}
-use Rattle.list_board.specs.declared.list_boards.ListBoard.{ListBoard}
-use Rattle.list_board.specs.declared.points.Point.{Point}
+use Rattle.board.specs.declared.points.Point.{Point}
 
 -- a table with its filled records first, in the order put, and a board's rows and columns
 pub record Listing : Type 0 where
@@ -16,10 +15,6 @@ pub record Listing : Type 0 where
 -- what is read where there is no record
 abbrev pub zero_point : Point
 zero_point = record { row = record { 0 = 0 }; column = record { 0 = 0 }; label = record { 0 = 0 } }
-
--- what a board holds
-abbrev pub listed : ListBoard → Listing
-listed b = record { table = b.table.now; filled = b.filled; rows = b.rows; columns = b.columns }
 
 -- the points in the order put
 abbrev pub records : Listing → List Point
@@ -46,7 +41,7 @@ distinct (p ∷ ps) = not (is_some (place_in ps p.label.0)) && distinct ps
 abbrev pub meaning : Listing → Meaning
 meaning b = record { rows = b.rows; columns = b.columns; capacity = length b.table; at = place_in (records b) }
 
--- what every call asks and keeps: the filled records fit the table, each has a label of its own, and they are all the points
+-- what holds of every list board: the filled records fit the table, each has a label of its own, and they are all the points
 pub record Whole (b : Listing) : Type 0 where
   pub fits : b.filled ≤ length b.table
   pub once : distinct (records b) ≡ true

@@ -2,4 +2,3 @@
 #![tactic(auto)]
 
 pub mod list_boards;
-pub mod points;

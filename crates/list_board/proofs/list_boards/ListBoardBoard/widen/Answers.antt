@@ -1,7 +1,43 @@
-use Rattle.std.proofs.Common.{inr}
+use Rattle.std.proofs.Common.{rules, ◌≡◌, ◌-◌, take, None, sym, ap, ◌∙◌, subst}
+use Rattle.board.specs.Meaning.{widened}
+use Rattle.board.specs.Answering.{widen_refusal}
+use Rattle.board.proofs.Meanings.{accepted, wide, widen_clear}
+use Rattle.board.proofs.Parts.{changed_by}
+use Rattle.list_board.specs.Listing.{Whole, meaning, held_point}
+use Rattle.list_board.specs.Listed.{listed}
+use Rattle.list_board.proofs.Listings.{roomier_whole, open_whole, open_meaning, opened, follows_opening}
 use Rattle.list_board.proofs.list_boards.ListBoardBoard.widen.Goals as goal
 
-pub returns : goal.returns
-returns c =
-    let done = c.open.ensures in
-    record { ok = done.ok; keeps = (c.open.result, inr (_, (_, done.holds))); widens = done.widens }
+pub invariant_of-self : goal.invariant_of-self
+invariant_of-self c =
+    let b = listed c.args.self.now in
+    let may = wide (meaning b) c.args.row.0 c.args.column.0 (widen_clear (meaning b) c.args.row.0 c.args.column.0 c.size.ensures c.in_ok-may_widen.ensures) in
+    record { whole = roomier_whole b may.0 may.1 c.args.self.now.whole }
+
+pub invariant_of-self-2 : goal.invariant_of-self-2
+invariant_of-self-2 c =
+    let b = listed c.args.self.now in
+    let row = c.args.row.0 in
+    let column = c.args.column.0 in
+    let may = wide (meaning b) row column (widen_clear (meaning b) c.args.row.0 c.args.column.0 c.size.ensures c.in_ok-may_widen.ensures) in
+    let is = opened b row column c.change_each.new.table c.args.self.now.whole (changed_by _ (held_point row column) (take (b.filled - 0) b.table) _ (λ x y r. search rules) c.change_each.ensures) in
+    record { whole = subst Whole (sym is) (open_whole b row column may.0 may.1 c.args.self.now.whole) }
+
+pub returns-clause-holds : goal.returns-clause-holds
+returns-clause-holds c =
+    let b = listed c.args.self.now in
+    let row = c.args.row.0 in
+    let column = c.args.column.0 in
+    opened b row column c.change_each.new.table c.args.self.now.whole (changed_by _ (held_point row column) (take (b.filled - 0) b.table) _ (λ x y r. search rules) c.change_each.ensures)
+
+pub returns-clause-keeps : goal.returns-clause-keeps
+returns-clause-keeps c = follows_opening _ _ c.args.row.0 c.args.column.0 (returns-clause-holds c)
+
+pub returns-clause-widens : goal.returns-clause-widens
+returns-clause-widens c =
+    let b = listed c.args.self.now in
+    let row = c.args.row.0 in
+    let column = c.args.column.0 in
+    let m = meaning b in
+    let clear : widen_refusal m row column ≡ None = widen_clear m row column c.size.ensures c.in_ok-may_widen.ensures in
+    accepted (widen_refusal m row column) m (widened m row column) _ clear (ap meaning (returns-clause-holds c) ∙ open_meaning b row column c.args.self.now.whole)
