@@ -31,8 +31,8 @@ pub trait Board {
     fn size(&self) -> Size
         ensures { Sizes (means self.now) result };
 
-    // Opens a row and a column: points at or past them move up one, and both counts grow by one. They are two arguments
-    // of two types, which a struct would only wrap at each call.
+    // Opens a row and a column: points at or past them move up one, and both counts grow by one. Row and column are two
+    // arguments of two types, which a struct would only wrap at each call.
     fn widen(&mut self, row: BackRank, column: ForeRank) -> Result<(), Refusal>
         ensures keeps { keeps self.old self.new }
         ensures widens { Widens (means self.old) row column result (means self.new) };
@@ -46,8 +46,8 @@ pub trait Board {
     fn locate(&self, label: Strand) -> Option<(BackRank, ForeRank)>
         ensures { Locates (means self.now) label result };
 
-    // The smallest label not below the floor among the points inside, or none. The floor rises from question to question
-    // while the rectangle stays, so they are two arguments.
+    // The smallest label not below the floor among the points inside, or none. Two arguments, since the floor rises from
+    // question to question while the rectangle stays.
     fn first(&self, within: Rectangle, floor: Strand) -> Option<Strand>
         ensures { Firsts (means self.now) within floor result };
 

@@ -49,8 +49,8 @@ impl<'a> ListBoard<'a> {
         &self.table[0..self.filled]
     }
 
-    // The index of a label's record, or that the label is absent. It goes through the records with their index, as every
-    // search of a list board is to do.
+    // The index of a label's record, or that the label is absent. It goes through the records with their index, the form
+    // that docs/DECISIONS.md keeps for it.
     fn index_of(&self, label: Strand) -> Option<usize>
         ensures { IndexOf (records (listed self.now)) label.0 result }
     {
