@@ -15,7 +15,8 @@ pub fn change_each<T: Copy, F: Fn(T) -> T>(table: &mut [T], by: F)
     }
 }
 
-// A rank after a row or a column is opened at a place: from there on ranks move up one. The largest number stays.
+// A rank after a row or a column is opened at a place: from there on ranks move up one. The largest number stays. Ranks are
+// held to one another by the numbers that the clause speaks of.
 pub fn moved_up<R: Rank>(rank: R, place: R) -> R
     ensures { R.number result ≡ held_rank (R.number place) (R.number rank) }
 {

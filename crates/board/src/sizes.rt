@@ -15,7 +15,7 @@ pub struct Size {
     pub capacity: u16,
 }
 
-// A rank is held to a count by its number: a count is no rank, so the ranks' own order does not serve.
+// Ranks and labels are held to counts by their numbers: a count is no rank and no label, so their own order does not serve.
 impl Size {
     ghost use Rattle.board.specs.Answering.{put_fault, settled, widen_fault};
 

@@ -21,7 +21,7 @@ struct Load {
 
 const QUESTIONS: u32 = 400000;
 
-// A call that is refused would show in what is printed.
+// Widens a board to so many rows. Here and below, a call that is refused would show in what is printed.
 fn widen_to<B: Board>(board: &mut B, rows: u16) {
     for row in BYTE_STRANDS..rows {
         let _ = board.widen(BackRank(row / 2), ForeRank(row / 3));

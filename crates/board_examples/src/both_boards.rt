@@ -25,7 +25,7 @@ fn label(seed: u32) -> Strand {
     }
 }
 
-// A call of a kind that a number throws; every second one is a put.
+// A call of a kind that a made-up number throws; every second one is a put.
 fn thrown_call(seed: u32) -> Call {
     let row = BackRank(rank(seed));
     let column = ForeRank(rank(thrown(seed)));

@@ -55,11 +55,13 @@ fn size(rows: u16, columns: u16, points: u16) -> Row {
 }
 
 fn first(rows: (u16, u16), columns: (u16, u16), floor: u16, answer: Option<Strand>) -> Row {
+    let (top, bottom) = rows;
+    let (left, right) = columns;
     let within = Rectangle {
-        top: BackRank(rows.0),
-        bottom: BackRank(rows.1),
-        left: ForeRank(columns.0),
-        right: ForeRank(columns.1),
+        top: BackRank(top),
+        bottom: BackRank(bottom),
+        left: ForeRank(left),
+        right: ForeRank(right),
     };
     Row {
         call: Call::First {

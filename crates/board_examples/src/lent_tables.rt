@@ -1,4 +1,4 @@
-// List boards over tables of 0, 2 and 3,000 records.
+// List boards over tables of 0, 2, 4 and 3,000 records.
 use super::points::point;
 use board::Board;
 use board::points::Point;

@@ -44,7 +44,7 @@ pub(crate) struct Header {
 }
 
 impl Header {
-    // The header of the file of so many pairs and lines.
+    // The header of the file of so many pairs and lines: two counts, in the order of the fields, as in the functions below.
     pub fn of_file(pairs: u16, lines: u16) -> Header
         ensures { result ≡ header_of pairs lines }
     {

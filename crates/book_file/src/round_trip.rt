@@ -8,7 +8,8 @@ use super::records::LineRecord;
 use grammar::strands::Pair;
 use std::alloc::Global;
 
-// Encodes the pairs and lines to the buffer and decodes them from there: the same pairs and lines come back.
+// Encodes the pairs and lines, two slices as `encode` takes them, to the buffer and decodes them from there: the same pairs
+// and lines come back.
 pub fn decode_encoded(
     heap: Global,
     pairs: &[Pair],

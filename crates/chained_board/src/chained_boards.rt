@@ -149,13 +149,14 @@ impl Board for ChainedBoard {
     }
 
     fn first(&self, within: Rectangle, floor: Strand) -> Option<Strand> {
+        // the rows asked for, held to the number of rows
         let bottom = (within.bottom.0 as usize).min(self.order.len());
         let top = (within.top.0 as usize).min(bottom);
         let mut least = None;
         'rows: for chain in &self.order[top..bottom] {
             let Chain { row, head } = self.chains[*chain];
             let mut next = head;
-            // from slot to slot along the chain, the newest first; both loops have labels, by which the proofs name them
+            // from slot to slot, the newest first: nested loops with labels, the form that docs/DECISIONS.md keeps for it
             'points: while let Some(slot) = next {
                 let slot = self.slots[slot];
                 let Slot { column, label, .. } = slot;

@@ -11,8 +11,8 @@ use Rattle.board.specs.Answering.{Locates, ranked}
 use Rattle.board.specs.Meaning.{count, placed, widened, moved_point}
 use Rattle.board.proofs.Meanings.{clean_proper, count-clean, placed_as, widened_as}
 use Rattle.board.specs.declared.points.Point.{Point}
-use Rattle.list_board.specs.Listing.{Listing, Whole, Follows, IndexOf, records, place_in, zero_point, distinct, meaning, fresh, with_point, with_opening, moved_record, held_point}
-use Rattle.list_board.proofs.Places.{place_more, distinct_more, place_moved, distinct_moved, held_are_moved, place_of}
+use Rattle.list_board.specs.Listing.{Listing, Whole, Follows, IndexOf, records, place_in, zero_point, distinct, meaning, fresh, with_point, with_opening, moved_record}
+use Rattle.list_board.proofs.Places.{held_point, place_more, distinct_more, place_moved, distinct_moved, held_are_moved, place_of}
 
 -- a new board
 pub fresh_whole : (table : List Point) → Whole (fresh table)

@@ -3,11 +3,15 @@ use Rattle.std.proofs.Common.{◌≡◌, ℕ, zero, suc, ◌<◌, Bool, true, fa
 use Rattle.std.proofs.lemmas.Bool.Decides.{nat_tests}
 use Rattle.std.proofs.lemmas.Bool.{cond-true, cond-false, eq-eqb, ne_eqb}
 use Rattle.grammar.specs.Limits.{max_strands}
-use Rattle.board.specs.Meaning.{moved, moved_point}
+use Rattle.board.specs.Meaning.{moved, held_rank, moved_point}
 use Rattle.board.proofs.Parts.{map_same}
 use Rattle.board.proofs.Meanings.{some_moved, held_is_moved}
 use Rattle.board.specs.declared.points.Point.{Point}
-use Rattle.list_board.specs.Listing.{place_in, distinct, moved_record, held_point, zero_point}
+use Rattle.list_board.specs.Listing.{place_in, distinct, moved_record, zero_point}
+
+-- a point moved, as far as a rank's type goes
+abbrev pub held_point : ℕ → ℕ → Point → Point
+held_point row column p = record { row = record { 0 = held_rank row p.row.0 }; column = record { 0 = held_rank column p.column.0 }; label = p.label }
 
 -- a record more, behind the others
 pub place_more : (ps : List Point) (p : Point) (label : ℕ) → is_some (place_in ps p.label.0) ≡ false → place_in (ps ++ p ∷ []) label ≡ cond (eqb p.label.0 label) (Some (p.row.0, p.column.0)) (place_in ps label)

@@ -2,7 +2,7 @@
 use Rattle.std.specs.Prelude.{◌≡◌, ℕ, ◌+◌, ◌<◌, ◌≤◌, Bool, true, cond, not, ◌&&◌, ◌⊎◌, List, [], ◌∷◌, ◌++◌, map, length, take, drop, is_some, Some, None, Ok, Err, Option, Result, MatchOption, ◌==◌, slice_index_or, slice_set}
 use Rattle.grammar.specs.Limits.{byte_strand_count, max_strands}
 use Rattle.grammar.specs.declared.refusals.Refusal.{Refusal}
-use Rattle.board.specs.Meaning.{Meaning, Proper, count, moved, held_rank}
+use Rattle.board.specs.Meaning.{Meaning, Proper, count, moved}
 use Rattle.board.specs.declared.points.Point.{Point}
 
 -- a table with its filled records first, in the order put, and a board's rows and columns
@@ -68,10 +68,6 @@ with_opening b row column = record { table = map (moved_record row column) (reco
 abbrev pub leaves : Result (Unit {0}) Refusal → Listing → Listing → Listing
 leaves (Ok done) before changed = changed
 leaves (Err refusal) before changed = before
-
--- the same, as far as a rank's type goes
-abbrev pub held_point : ℕ → ℕ → Point → Point
-held_point row column p = record { row = record { 0 = held_rank row p.row.0 }; column = record { 0 = held_rank column p.column.0 }; label = p.label }
 
 -- what a call keeps of the table: a point more behind the others, every point moved where it is, or all as it was
 abbrev pub Follows : Listing → Listing → Type 0

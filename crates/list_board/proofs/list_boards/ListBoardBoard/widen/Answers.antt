@@ -3,8 +3,9 @@ use Rattle.board.specs.Meaning.{widened}
 use Rattle.board.specs.Answering.{widen_refusal}
 use Rattle.board.proofs.Meanings.{accepted, wide, widen_clear}
 use Rattle.board.proofs.Parts.{changed_by}
-use Rattle.list_board.specs.Listing.{Whole, meaning, held_point}
+use Rattle.list_board.specs.Listing.{Whole, meaning}
 use Rattle.list_board.specs.Listed.{listed}
+use Rattle.list_board.proofs.Places.{held_point}
 use Rattle.list_board.proofs.Listings.{roomier_whole, open_whole, open_meaning, opened, follows_opening}
 use Rattle.list_board.proofs.list_boards.ListBoardBoard.widen.Goals as goal
 
