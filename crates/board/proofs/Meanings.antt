@@ -13,7 +13,7 @@ use Rattle.grammar.specs.declared.strands.ForeRank.{ForeRank}
 use Rattle.grammar.specs.declared.strands.Strand.{Strand}
 use Rattle.board.specs.declared.points.Point.{Point}
 use Rattle.board.specs.declared.sizes.Size.{Size}
-use Rattle.board.specs.Answering.{Sizes, Locates, ranked, widen_fault, put_fault, widen_refusal, put_refusal, settled, kept, Settles}
+use Rattle.board.specs.Answering.{Sizes, Locates, ranked, widen_fault, covered, put_fault, widen_refusal, put_refusal, settled, kept, Settles}
 
 pub moved_below : (place rank : ℕ) → rank < place → moved place rank ≡ rank
 moved_below place rank h = grind (arith, nat_tests)
@@ -126,6 +126,9 @@ placed_proper m row column label on_row on_column low free room w =
           (eqb_tells label other);
     }
 
+pub widen_allowed : (m : Meaning) (row column : ℕ) → m.rows < max_strands → m.columns < max_strands → row ≤ m.rows → column ≤ m.columns → widen_refusal m row column ≡ None
+widen_allowed m row column rows columns on_row on_column = grind (arith, nat_tests)
+
 pub put_allowed : (m : Meaning) (row column label : ℕ) → row < m.rows → column < m.columns → label < max_strands → stands m label ≡ false → count m < m.capacity → put_refusal m row column label ≡ None
 put_allowed m row column label on_row on_column low free room = grind (arith, nat_tests)
 
@@ -159,7 +162,7 @@ mapped_some None = refl
 mapped_some (Some place) = refl
 
 -- a call that is not refused
-not_refused : (refusal : Option Refusal) (done : Unit {0}) → Ok done ≡ settled refusal → refusal ≡ None
+pub not_refused : (refusal : Option Refusal) (done : Unit {0}) → Ok done ≡ settled refusal → refusal ≡ None
 not_refused None done e = refl
 not_refused (Some refusal) done e = absurd (cc)
 
@@ -175,10 +178,14 @@ widen_clear m row column is told = not_refused _ _ (told ∙ ap (λ (s : Size). 
 found_stands : (m : Meaning) (label : Strand) (found : Option (BackRank × ForeRank)) → Locates m label found → is_some found ≡ stands m label.0
 found_stands m label found at = ap is_some at ∙ mapped_some (place_at m label.0)
 
-put_told : (m : Meaning) (size : Size) (point : Point) (found : Option (BackRank × ForeRank)) → Sizes m size → Locates m point.label found → put_fault size (is_some found) point.row.0 point.column.0 point.label.0 ≡ put_refusal m point.row.0 point.column.0 point.label.0
+pub put_told : (m : Meaning) (size : Size) (point : Point) (found : Option (BackRank × ForeRank)) → Sizes m size → Locates m point.label found → put_fault size (is_some found) point.row.0 point.column.0 point.label.0 ≡ put_refusal m point.row.0 point.column.0 point.label.0
 put_told m size point found is at =
     let stand = found_stands m point.label found at in
     cc
+
+-- a point that a size does not cover is declined alike, whether its label stands or not
+pub uncovered : (size : Size) (taken other : Bool) (row column label : ℕ) → covered size row column label ≡ false → put_fault size taken row column label ≡ put_fault size other row column label
+uncovered size taken other row column label h = grind (arith, nat_tests, h)
 
 pub put_clear : {size : Size} {found : Option (BackRank × ForeRank)} {done : Unit {0}} (m : Meaning) (point : Point) → Sizes m size → Locates m point.label found → Ok done ≡ settled (put_fault size (is_some found) point.row.0 point.column.0 point.label.0) → put_refusal m point.row.0 point.column.0 point.label.0 ≡ None
 put_clear {size = size} {found = found} m point is at told = not_refused _ _ (told ∙ ap settled (put_told m size point found is at))

@@ -1,5 +1,5 @@
 -- What each call of a board answers, and what the board means after it.
-use Rattle.std.specs.Prelude.{◌≡◌, ℕ, ◌<◌, min, Bool, true, false, ◌||◌, [], ◌∷◌, Some, None, Ok, Err, Option, Result, MatchOption, nat_le, nat_lt}
+use Rattle.std.specs.Prelude.{◌≡◌, ℕ, ◌<◌, min, Bool, true, false, ◌&&◌, ◌||◌, [], ◌∷◌, Some, None, Ok, Err, Option, Result, MatchOption, nat_le, nat_lt}
 use Rattle.std.specs.Option.{option_map}
 use Rattle.grammar.specs.Limits.{max_strands}
 use Rattle.grammar.specs.Refusals.{first_of}
@@ -48,6 +48,10 @@ widen_refusal m row column = widen_fault (size_of m) row column
 
 abbrev pub Widens : Meaning → BackRank → ForeRank → Result (Unit {0}) Refusal → Meaning → Type 0
 Widens m row column answer after = Settles (widen_refusal m row.0 column.0) m (widened m row.0 column.0) answer after
+
+-- whether a point's row and column are on a board of a size, and its label within the limit
+abbrev pub covered : Size → ℕ → ℕ → ℕ → Bool
+covered size row column label = nat_lt row size.rows && (nat_lt column size.columns && nat_lt label max_strands)
 
 -- why a board of a size adds no point there, whose label is taken or not
 abbrev pub put_fault : Size → Bool → ℕ → ℕ → ℕ → Option Refusal

@@ -1,14 +1,15 @@
 // One change to every element of a table.
-ghost use Rattle.std.specs.Prelude.{◌≡◌};
+ghost use Rattle.std.specs.Prelude.{◌≡◌, map};
 ghost use Rattle.std.specs.List.{AllZip};
 ghost use Rattle.board.specs.Meaning.{held_rank};
 
 use grammar::strands::Rank;
 
-// Changes each element in place.
+// Changes each element in place. A change that makes one value of each element is a map of the table.
 pub fn change_each<T: Copy, F: Fn(T) -> T>(table: &mut [T], by: F)
     requires { F.IsAlwaysCallable by }
-    ensures { AllZip (λ x y. F.post by x y) table.old table.new }
+    ensures each { AllZip (λ x y. F.post by x y) table.old table.new }
+    ensures made { (f : T → T) → ((x y : T) → F.post by x y → y ≡ f x) → table.new ≡ map f table.old }
 {
     for x in table {
         *x = by(*x);

@@ -17,7 +17,7 @@ pub struct Size {
 
 // Ranks and labels are held to counts by their numbers: a count is no rank and no label, so their own order does not serve.
 impl Size {
-    ghost use Rattle.board.specs.Answering.{put_fault, settled, widen_fault};
+    ghost use Rattle.board.specs.Answering.{covered, put_fault, settled, widen_fault};
 
     // Whether a board of this size may open a row and a column, or why not.
     pub fn may_widen(self, row: BackRank, column: ForeRank) -> Result<(), Refusal>
@@ -30,6 +30,14 @@ impl Size {
             return Err(Refusal::OffBoard);
         }
         Ok(())
+    }
+
+    // Whether a point's row and column are on a board of this size, and its label within the limit: only then does it matter
+    // whether the label stands already.
+    pub fn covers(self, point: Point) -> bool
+        ensures { result ≡ covered self point.row.0 point.column.0 point.label.0 }
+    {
+        point.row.0 < self.rows && point.column.0 < self.columns && point.label.0 < MAX_STRANDS
     }
 
     // Whether a board of this size may add a point, or why not, by where its label stands already.

@@ -3,7 +3,7 @@ use Rattle.std.proofs.Common.{◌≡◌, ℕ, ◌+◌, ◌*◌, ◌/◌, ◌%◌
 use Rattle.std.proofs.lemmas.List.{drop_more}
 use Rattle.book_file.specs.Layout.{two, four, field}
 
-two_is : (a b n : ℕ) → a < 256 → n ≡ a + b * 256 → two n ≡ a ∷ b ∷ []
+pub two_is : (a b n : ℕ) → a < 256 → n ≡ a + b * 256 → two n ≡ a ∷ b ∷ []
 two_is a b n h e =
     let low : n % 256 ≡ a = omega arith in
     let high : n / 256 ≡ b = omega arith in cc

@@ -32,6 +32,15 @@ module _ {a b c : Writer} where
     buffer = then_written a.buffer.now xs ys a.within p.place p.buffer q.buffer;
   }
 
+-- the same piece from any writer that stands at the same place of the same buffer
+pub put_from : {a a' b : Writer} {xs : List ℕ} → a'.buffer ≡ a.buffer → a'.place ≡ a.place → Put a' b xs → Put a b xs
+put_from {a} {a'} {b} {xs} same at p = record {
+  same_buffer = p.same_buffer ∙ ap (λ z. z.ghost_name) same;
+  same_length = p.same_length ∙ ap (λ z. length z.now) same;
+  place = p.place ∙ ap (λ k. k + length xs) at;
+  buffer = p.buffer ∙ ap (λ z. written z.now a'.place xs) same ∙ ap (λ k. written a.buffer.now k xs) at;
+}
+
 -- the bytes of a number
 module _ {a b : Writer} {bytes : List ℕ} (put : Put a b bytes) (n : ℕ) where
   pub put_two : n < 65536 → bytes ≡ n % 256 ∷ n / 256 % 256 ∷ [] → Put a b (two n)

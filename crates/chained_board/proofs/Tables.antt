@@ -3,25 +3,14 @@ use Rattle.std.proofs.Common.{◌≡◌, ℕ, zero, suc, ◌+◌, ◌<◌, ◌�
 use Rattle.std.proofs.lemmas.Bool.Decides.{nat_tests, eqb_tells}
 use Rattle.std.proofs.lemmas.Grind.{get_or-set_at}
 use Rattle.std.proofs.lemmas.Bool.{cond-true, cond-false}
-use Rattle.std.proofs.lemmas.List.{get_or-set_other, get_or-map, length-map, with_items_is}
+use Rattle.std.proofs.lemmas.List.{get_or-set_other, length-map, with_items_is}
 use Rattle.std.specs.Vec.{with_items}
 use Rattle.std.specs.List.{AllZip}
 use Rattle.grammar.specs.declared.strands.BackRank.{BackRank}
 use Rattle.board.specs.Meaning.{Meaning}
 use Rattle.board.proofs.Parts.{changed_by}
-use Rattle.chained_board.specs.Chains.{Tables, Sound, meaning_of, slot_at, rows_of, heads_of, row_of, newest}
-use Rattle.chained_board.specs.declared.chained_boards.Chain.{Chain}
+use Rattle.chained_board.specs.Chains.{Tables, Sound, meaning_of, slot_at, newest}
 use Rattle.chained_board.specs.declared.chained_boards.Slot.{Slot}
-
-abbrev pub unborn : Chain
-unborn = record { row = record { 0 = 0 }; head = None }
-
--- the row and the newest slot of a chain, as the tables of both have them
-pub row_is : (chains : List Chain) (c : ℕ) → c < length chains → row_of (rows_of chains) c ≡ (get_or chains c unborn).row.0
-row_is chains c h = ap (λ (row : BackRank). row.0) (get_or-map (λ (chain : Chain). chain.row) chains c unborn (record { 0 = 0 }) h)
-
-pub head_is : (chains : List Chain) (c : ℕ) → c < length chains → get_or (heads_of chains) c None ≡ (get_or chains c unborn).head
-head_is chains c h = get_or-map (λ (chain : Chain). chain.head) chains c unborn None h
 
 -- a slot and those older than it are the slots below this number
 abbrev pub bound : Option ℕ → ℕ
@@ -67,8 +56,8 @@ newest_on slots c (suc n) s e = ⊎_elim
     (omega (arith, r.0), r.1))
     (eqb_tells (slot_at slots n).chain c)
 
-pub tables_from : {slots slots' : List Slot} {order order' : List ℕ} {chains chains' : List Chain} {labels labels' : List (Option ℕ)} → slots ≡ slots' → order ≡ order' → chains ≡ chains' → labels ≡ labels' → ◌≡◌ {A = Tables} (record { slots = slots; order = order; chains = chains; labels = labels }) (record { slots = slots'; order = order'; chains = chains'; labels = labels' })
-tables_from a b c d = cc
+pub tables_from : {slots slots' : List Slot} {order order' : List ℕ} {rows rows' : List BackRank} {heads heads' labels labels' : List (Option ℕ)} → slots ≡ slots' → order ≡ order' → rows ≡ rows' → heads ≡ heads' → labels ≡ labels' → ◌≡◌ {A = Tables} (record { slots = slots; order = order; rows = rows; heads = heads; labels = labels }) (record { slots = slots'; order = order'; rows = rows'; heads = heads'; labels = labels' })
+tables_from a b c d e = cc
 
 -- tables that equal others are sound and mean what those do
 pub same_tables : {t t' : Tables} {columns : ℕ} {m : Meaning} → t ≡ t' → Sound t' columns × (meaning_of t' columns ≡ m) → Sound t columns × (meaning_of t columns ≡ m)

@@ -9,14 +9,13 @@ use Rattle.grammar.specs.declared.strands.BackRank.{BackRank}
 use Rattle.board.specs.Meaning.{moved, held_rank, moved_point}
 use Rattle.board.proofs.Parts.{map_same}
 use Rattle.board.proofs.Meanings.{moved_below, moved_above, moved_most, held_is_moved}
-use Rattle.chained_board.specs.Chains.{blank, slot_at, rows_of, heads_of, row_of, newest, place_of, Paired, Filed, Linked}
-use Rattle.chained_board.specs.declared.chained_boards.Chain.{Chain}
+use Rattle.chained_board.specs.Chains.{blank, slot_at, row_of, newest, place_of, Paired, Filed, Linked}
 use Rattle.chained_board.specs.declared.chained_boards.Slot.{Slot}
-use Rattle.chained_board.proofs.Tables.{unborn, row_is, newest_same, newest_none}
+use Rattle.chained_board.proofs.Tables.{newest_same, newest_none}
 
--- a chain and a slot, after a row or a column is opened
-abbrev pub row_moved : ℕ → Chain → Chain
-row_moved place chain = record { row = record { 0 = held_rank place chain.row.0 }; head = chain.head }
+-- a chain's row, and a slot's column, after one is opened
+abbrev pub row_moved : ℕ → BackRank → BackRank
+row_moved place row = record { 0 = held_rank place row.0 }
 
 abbrev pub column_moved : ℕ → Slot → Slot
 column_moved place slot = record { chain = slot.chain; column = record { 0 = held_rank place slot.column.0 }; label = slot.label; next = slot.next }
@@ -25,32 +24,20 @@ column_moved place slot = record { chain = slot.chain; column = record { 0 = hel
 abbrev pub opened : ℕ → BackRank → BackRank
 opened a row = record { 0 = moved a row.0 }
 
-abbrev pub pushed : ℕ → Chain → Chain
-pushed a chain = record { row = opened a chain.row; head = chain.head }
-
 abbrev pub shifted : ℕ → Slot → Slot
 shifted b slot = record { chain = slot.chain; column = record { 0 = moved b slot.column.0 }; label = slot.label; next = slot.next }
 
-chain_fits : (a : ℕ) (chain : Chain) → chain.row.0 < max_strands → row_moved a chain ≡ pushed a chain
-chain_fits a chain low = ap (λ (k : ℕ). record { row = record { 0 = k }; head = chain.head }) (held_is_moved a chain.row.0 low)
+row_fits : (a : ℕ) (row : BackRank) → row.0 < max_strands → row_moved a row ≡ opened a row
+row_fits a row low = ap (λ (k : ℕ). record { 0 = k }) (held_is_moved a row.0 low)
 
 column_fits : (b : ℕ) (slot : Slot) → slot.column.0 < max_strands → column_moved b slot ≡ shifted b slot
 column_fits b slot low = ap (λ (k : ℕ). record { chain = slot.chain; column = record { 0 = k }; label = slot.label; next = slot.next }) (held_is_moved b slot.column.0 low)
 
-pub chains_fit : (a : ℕ) (chains : List Chain) → ((c : ℕ) → c < length chains → row_of (rows_of chains) c < max_strands) → map (row_moved a) chains ≡ map (pushed a) chains
-chains_fit a chains low = map_same (row_moved a) (pushed a) chains unborn (λ c h. chain_fits a (get_or chains c unborn) (omega (arith, row_is chains c h, low c h)))
+pub rows_fit : (a : ℕ) (rows : List BackRank) → ((c : ℕ) → c < length rows → row_of rows c < max_strands) → map (row_moved a) rows ≡ map (opened a) rows
+rows_fit a rows low = map_same (row_moved a) (opened a) rows (record { 0 = 0 }) (λ c h. row_fits a (get_or rows c (record { 0 = 0 })) (low c h))
 
 pub columns_fit : (b : ℕ) (slots : List Slot) → ((s : ℕ) → s < length slots → (slot_at slots s).column.0 < max_strands) → map (column_moved b) slots ≡ map (shifted b) slots
 columns_fit b slots low = map_same (column_moved b) (shifted b) slots blank (λ s h. column_fits b (slot_at slots s) (low s h))
-
--- the rows and the newest slots of the chains, with one more
-pub rows_wider : (a : ℕ) (chains : List Chain) → rows_of (map (pushed a) chains ++ record { row = record { 0 = a }; head = None } ∷ []) ≡ map (opened a) (rows_of chains) ++ record { 0 = a } ∷ []
-rows_wider a [] = refl
-rows_wider a (chain ∷ chains) = ap (λ (rows : List BackRank). opened a chain.row ∷ rows) (rows_wider a chains)
-
-pub heads_wider : (a : ℕ) (chains : List Chain) → heads_of (map (pushed a) chains ++ record { row = record { 0 = a }; head = None } ∷ []) ≡ heads_of chains ++ None ∷ []
-heads_wider a [] = refl
-heads_wider a (chain ∷ chains) = ap (λ (heads : List (Option ℕ)). chain.head ∷ heads) (heads_wider a chains)
 
 row_left : (n : ℕ) (rows : List BackRank) (a c : ℕ) → length rows ≡ n → c < n → row_of (map (opened a) rows ++ record { 0 = a } ∷ []) c ≡ moved a (row_of rows c)
 row_left n rows a c long h =

@@ -1,16 +1,16 @@
 -- What the tables of a chained board mean, and what holds of them.
-use Rattle.std.specs.Prelude.{◌≡◌, ℕ, zero, suc, ◌<◌, cond, List, length, map, Some, None, Option, ◌==◌, slice_index, slice_index_or}
+use Rattle.std.specs.Prelude.{◌≡◌, ℕ, zero, suc, ◌<◌, cond, List, length, Some, None, Option, ◌==◌, slice_index, slice_index_or}
 use Rattle.grammar.specs.Limits.{max_pairs, max_strands}
 use Rattle.grammar.specs.declared.strands.BackRank.{BackRank}
 use Rattle.board.specs.Meaning.{Meaning, Proper, count}
-use Rattle.chained_board.specs.declared.chained_boards.Chain.{Chain}
 use Rattle.chained_board.specs.declared.chained_boards.Slot.{Slot}
 
--- what the tables hold: the points, the chain of each row, the row and the newest slot of each chain, the slot of each label
+-- what the tables hold: the points, the chain of each row, the row of each chain, the newest slot of each chain, the slot of each label
 pub record Tables : Type 0 where
   pub slots : List Slot
   pub order : List ℕ
-  pub chains : List Chain
+  pub rows : List BackRank
+  pub heads : List (Option ℕ)
   pub labels : List (Option ℕ)
 
 abbrev pub blank : Slot
@@ -18,13 +18,6 @@ blank = record { chain = 0; column = record { 0 = 0 }; label = record { 0 = 0 };
 
 abbrev pub slot_at : List Slot → ℕ → Slot
 slot_at slots s = slice_index_or slots s blank
-
--- the rows and the newest slots of the chains
-abbrev pub rows_of : List Chain → List BackRank
-rows_of chains = map (λ chain. chain.row) chains
-
-abbrev pub heads_of : List Chain → List (Option ℕ)
-heads_of chains = map (λ chain. chain.head) chains
 
 -- the row of a chain
 abbrev pub row_of : List BackRank → ℕ → ℕ
@@ -37,7 +30,7 @@ place_of slots rows (Some s) = Some (row_of rows (slot_at slots s).chain, (slot_
 
 -- the row and the column of a label's point
 abbrev pub at_of : Tables → ℕ → Option (ℕ × ℕ)
-at_of t label = place_of t.slots (rows_of t.chains) (slice_index_or t.labels label None)
+at_of t label = place_of t.slots t.rows (slice_index_or t.labels label None)
 
 abbrev pub meaning_of : Tables → ℕ → Meaning
 meaning_of t columns = record { rows = length t.order; columns = columns; capacity = max_pairs; at = at_of t }
@@ -70,8 +63,8 @@ pub record Linked (n : ℕ) (slots : List Slot) (heads : List (Option ℕ)) : Ty
   pub link : (s : ℕ) → s < length slots → (slot_at slots s).next ≡ newest slots (slot_at slots s).chain s
 
 pub record Sound (t : Tables) (columns : ℕ) : Type 0 where
-  pub paired : Paired (length t.order) t.order (rows_of t.chains)
+  pub paired : Paired (length t.order) t.order t.rows
   pub filed : Filed (length t.order) t.slots t.labels
-  pub linked : Linked (length t.order) t.slots (heads_of t.chains)
+  pub linked : Linked (length t.order) t.slots t.heads
   pub counted : count (meaning_of t columns) ≡ length t.slots
   pub proper : Proper (meaning_of t columns)

@@ -24,13 +24,6 @@ struct Slot {
     next: Option<usize>,
 }
 
-// The row that a chain stands in, and its newest slot.
-#[derive(Clone, Copy)]
-struct Chain {
-    row: BackRank,
-    head: Option<usize>,
-}
-
 // A chain has the same number for good, and two tables tell which row it stands in. A label's point is found by its
 // slot, its chain and the chain's row, with no walk. Slots are named by index, and all tables have their memory from the
 // making on, so that no call can fail for want of it.
@@ -40,17 +33,20 @@ pub struct ChainedBoard {
     slots: Vec<Slot>,
     // the chain of each row
     order: Vec<usize>,
-    // the chains by number
-    chains: Vec<Chain>,
+    // the row of each chain
+    rows: Vec<BackRank>,
+    // the newest slot of each chain
+    heads: Vec<Option<usize>>,
     // the slot of each label
     labels: Vec<Option<usize>>,
     columns: u16,
     // there is room for all that may come
     pub ghost slot_room: { max_pairs ≤ vec_capacity slots },
     pub ghost order_room: { max_strands ≤ vec_capacity order },
-    pub ghost chain_room: { max_strands ≤ vec_capacity chains },
+    pub ghost row_room: { max_strands ≤ vec_capacity rows },
+    pub ghost head_room: { max_strands ≤ vec_capacity heads },
     // the tables agree, and mean a board
-    pub ghost sound: { Sound (record { slots = vec_items slots; order = vec_items order; chains = vec_items chains; labels = vec_items labels }) columns },
+    pub ghost sound: { Sound (record { slots = vec_items slots; order = vec_items order; rows = vec_items rows; heads = vec_items heads; labels = vec_items labels }) columns },
 }
 
 impl ChainedBoard {
@@ -62,20 +58,20 @@ impl ChainedBoard {
     {
         let slots = Vec::with_capacity(heap, MAX_PAIRS as usize)?;
         let mut order = Vec::with_capacity(heap, MAX_STRANDS as usize)?;
-        let mut chains = Vec::with_capacity(heap, MAX_STRANDS as usize)?;
+        let mut rows = Vec::with_capacity(heap, MAX_STRANDS as usize)?;
+        let mut heads = Vec::with_capacity(heap, MAX_STRANDS as usize)?;
         let labels = vec![in heap; None; MAX_STRANDS as usize]?;
-        // one by one into the room taken: both tables get an element for each row
+        // one by one into the room taken: all three tables get an element for each row
         for row in 0..BYTE_STRANDS {
             order.push_reserved(row as usize);
-            chains.push_reserved(Chain {
-                row: BackRank(row),
-                head: None,
-            });
+            rows.push_reserved(BackRank(row));
+            heads.push_reserved(None);
         }
         Ok(ChainedBoard {
             slots,
             order,
-            chains,
+            rows,
+            heads,
             labels,
             columns: BYTE_STRANDS,
         })
@@ -102,15 +98,10 @@ impl Board for ChainedBoard {
 
     fn widen(&mut self, row: BackRank, column: ForeRank) -> Result<(), Refusal> {
         self.size().may_widen(row, column)?;
-        change_each(
-            &mut self.chains,
-            |chain| Chain {
-                row: moved_up(chain.row, row),
-                ..chain
-            },
-        );
-        let opened = self.chains.len();
-        self.chains.push_reserved(Chain { row, head: None });
+        change_each(&mut self.rows, |other| moved_up(other, row));
+        self.rows.push_reserved(row);
+        self.heads.push_reserved(None);
+        let opened = self.order.len();
         // there is room: it was taken when the board was made
         self.order.insert(row.0 as usize, opened).unwrap();
         change_each(
@@ -128,13 +119,14 @@ impl Board for ChainedBoard {
         self.size().may_put(point, self.locate(point.label))?;
         let slot = self.slots.len();
         let chain = self.order[point.row.0 as usize];
-        let next = self.chains[chain].head.replace(slot);
+        let next = self.heads[chain];
         self.slots.push_reserved(Slot {
             chain,
             column: point.column,
             label: point.label,
             next,
         });
+        self.heads[chain] = Some(slot);
         self.labels[point.label.0 as usize] = Some(slot);
         Ok(())
     }
@@ -145,7 +137,7 @@ impl Board for ChainedBoard {
             return None;
         }
         let slot = self.slots[self.labels[label.0 as usize]?];
-        Some((self.chains[slot.chain].row, slot.column))
+        Some((self.rows[slot.chain], slot.column))
     }
 
     fn first(&self, within: Rectangle, floor: Strand) -> Option<Strand> {
@@ -154,12 +146,12 @@ impl Board for ChainedBoard {
         let top = (within.top.0 as usize).min(bottom);
         let mut least = None;
         'rows: for chain in &self.order[top..bottom] {
-            let Chain { row, head } = self.chains[*chain];
-            let mut next = head;
+            let mut next = self.heads[*chain];
             // from slot to slot, the newest first: nested loops with labels, the form that docs/DECISIONS.md keeps for it
             'points: while let Some(slot) = next {
                 let slot = self.slots[slot];
                 let Slot { column, label, .. } = slot;
+                let row = self.rows[*chain];
                 if within.is_hit(floor, Point { row, column, label }) {
                     least = lowest_of(least, label);
                 }

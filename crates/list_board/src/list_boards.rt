@@ -109,7 +109,14 @@ impl Board for ListBoard<'_> {
         ensures puts { Puts (meaning (listed self.old)) point result (meaning (listed self.new)) }
         ensures holds { listed self.new ≡ leaves result (listed self.old) (with_point (listed self.old) point) }
     {
-        self.size().may_put(point, self.locate(point.label))?;
+        let size = self.size();
+        // looked for only where it matters: off the board, or past the limit of labels, it is declined all the same
+        let standing = if size.covers(point) {
+            self.locate(point.label)
+        } else {
+            None
+        };
+        size.may_put(point, standing)?;
         self.table[self.filled] = point;
         self.filled += 1;
         Ok(())

@@ -1,7 +1,7 @@
-use Rattle.std.proofs.Common.{[], get_or, take, arith}
+use Rattle.std.proofs.Common.{[], refl, get_or, take, arith}
 use Rattle.std.proofs.lemmas.List.{take_more, flat_map_more}
 use Rattle.std.proofs.lemmas.List.Folds.{length-flat_map-take}
-use Rattle.book_file.proofs.Putting.{put_none, put_more}
+use Rattle.book_file.proofs.Putting.{put_none, put_more, put_from}
 use Rattle.book_file.proofs.Tables.{length_table}
 use Rattle.book_file.proofs.encode.write_all.Goals as goal
 
@@ -23,4 +23,4 @@ loop-record-preserved g c =
     let rs = c.args.records.now in
     let i = c.loop-record.record-index in
     let x = c.record-item.result in
-    rw (take_more rs i x c.loop-record-test.true, ← flat_map_more bytes [] (take i rs) (get_or rs i x), ← c.record-item.is) (put_more c.loop-record.invariant c.write.ensures)
+    rw (take_more rs i x c.loop-record-test.true, ← flat_map_more bytes [] (take i rs) (get_or rs i x), ← c.record-item.is) (put_more c.loop-record.invariant (put_from refl refl c.write.ensures))

@@ -6,7 +6,7 @@ use Rattle.chained_board.proofs.Walks.{Walk, reached}
 use Rattle.chained_board.proofs.chained_boards.ChainedBoardBoard.first.Given as goal
 
 abbrev pub invariant-points : goal.invariant-points
-invariant-points l = Walk l.within l.floor.0 (tables l.self) l.row.0 l.next l.least
+invariant-points l = Walk l.within l.floor.0 (tables l.self) (l.top + l.chain-index) l.next l.least
 
 abbrev pub decreases-points : goal.decreases-points
 decreases-points l = bound l.next

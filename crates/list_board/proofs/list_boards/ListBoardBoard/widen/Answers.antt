@@ -1,8 +1,7 @@
-use Rattle.std.proofs.Common.{rules, ◌≡◌, ◌-◌, take, None, sym, ap, ◌∙◌, subst}
+use Rattle.std.proofs.Common.{rules, ◌≡◌, None, sym, ap, ◌∙◌, subst}
 use Rattle.board.specs.Meaning.{widened}
 use Rattle.board.specs.Answering.{widen_refusal}
 use Rattle.board.proofs.Meanings.{accepted, wide, widen_clear}
-use Rattle.board.proofs.Parts.{changed_by}
 use Rattle.list_board.specs.Listing.{Whole, meaning}
 use Rattle.list_board.specs.Listed.{listed}
 use Rattle.list_board.proofs.Places.{held_point}
@@ -21,7 +20,7 @@ invariant_of-self-2 c =
     let row = c.args.row.0 in
     let column = c.args.column.0 in
     let may = wide (meaning b) row column (widen_clear (meaning b) c.args.row.0 c.args.column.0 c.size.ensures c.in_ok-may_widen.ensures) in
-    let is = opened b row column c.change_each.new.table c.args.self.now.whole (changed_by _ (held_point row column) (take (b.filled - 0) b.table) _ (λ x y r. search rules) c.change_each.ensures) in
+    let is = opened b row column c.change_each.new.table c.args.self.now.whole (c.change_each.ensures.made (held_point row column) (λ x y r. search rules)) in
     record { whole = subst Whole (sym is) (open_whole b row column may.0 may.1 c.args.self.now.whole) }
 
 pub returns-clause-holds : goal.returns-clause-holds
@@ -29,7 +28,7 @@ returns-clause-holds c =
     let b = listed c.args.self.now in
     let row = c.args.row.0 in
     let column = c.args.column.0 in
-    opened b row column c.change_each.new.table c.args.self.now.whole (changed_by _ (held_point row column) (take (b.filled - 0) b.table) _ (λ x y r. search rules) c.change_each.ensures)
+    opened b row column c.change_each.new.table c.args.self.now.whole (c.change_each.ensures.made (held_point row column) (λ x y r. search rules))
 
 pub returns-clause-keeps : goal.returns-clause-keeps
 returns-clause-keeps c = follows_opening _ _ c.args.row.0 c.args.column.0 (returns-clause-holds c)
