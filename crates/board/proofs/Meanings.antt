@@ -1,5 +1,5 @@
 -- What opening a row and a column, and a point more, make of a board's meaning.
-use Rattle.std.proofs.Common.{◌≡◌, ℕ, zero, suc, ◌+◌, ◌<◌, ◌≤◌, Bool, true, false, cond, eqb, is_some, Some, None, Ok, Err, Option, Result, sym, refl, ap, ◌∙◌, subst, ⊎_elim, not-suc-le-zero, arith}
+use Rattle.std.proofs.Common.{◌≡◌, ℕ, zero, suc, ◌+◌, ◌<◌, ◌≤◌, Bool, true, false, cond, eqb, is_some, Some, None, Ok, Err, Option, Result, ◌⊎◌, inl, inr, sym, refl, ap, ◌∙◌, subst, ⊎_elim, not-suc-le-zero, arith}
 use mathlib.Core.Path.{fun_ext}
 use Rattle.std.proofs.lemmas.Bool.Decides.{nat_tests, eqb_tells}
 use Rattle.std.proofs.lemmas.Bool.{cond-true, cond-false}
@@ -162,7 +162,7 @@ mapped_some None = refl
 mapped_some (Some place) = refl
 
 -- a call that is not refused
-pub not_refused : (refusal : Option Refusal) (done : Unit {0}) → Ok done ≡ settled refusal → refusal ≡ None
+not_refused : (refusal : Option Refusal) (done : Unit {0}) → Ok done ≡ settled refusal → refusal ≡ None
 not_refused None done e = refl
 not_refused (Some refusal) done e = absurd (cc)
 
@@ -178,17 +178,25 @@ widen_clear m row column is told = not_refused _ _ (told ∙ ap (λ (s : Size). 
 found_stands : (m : Meaning) (label : Strand) (found : Option (BackRank × ForeRank)) → Locates m label found → is_some found ≡ stands m label.0
 found_stands m label found at = ap is_some at ∙ mapped_some (place_at m label.0)
 
-pub put_told : (m : Meaning) (size : Size) (point : Point) (found : Option (BackRank × ForeRank)) → Sizes m size → Locates m point.label found → put_fault size (is_some found) point.row.0 point.column.0 point.label.0 ≡ put_refusal m point.row.0 point.column.0 point.label.0
+put_told : (m : Meaning) (size : Size) (point : Point) (found : Option (BackRank × ForeRank)) → Sizes m size → Locates m point.label found → put_fault size (is_some found) point.row.0 point.column.0 point.label.0 ≡ put_refusal m point.row.0 point.column.0 point.label.0
 put_told m size point found is at =
     let stand = found_stands m point.label found at in
     cc
 
 -- a point that a size does not cover is declined alike, whether its label stands or not
-pub uncovered : (size : Size) (taken other : Bool) (row column label : ℕ) → covered size row column label ≡ false → put_fault size taken row column label ≡ put_fault size other row column label
+uncovered : (size : Size) (taken other : Bool) (row column label : ℕ) → covered size row column label ≡ false → put_fault size taken row column label ≡ put_fault size other row column label
 uncovered size taken other row column label h = grind (arith, nat_tests, h)
 
 pub put_clear : {size : Size} {found : Option (BackRank × ForeRank)} {done : Unit {0}} (m : Meaning) (point : Point) → Sizes m size → Locates m point.label found → Ok done ≡ settled (put_fault size (is_some found) point.row.0 point.column.0 point.label.0) → put_refusal m point.row.0 point.column.0 point.label.0 ≡ None
 put_clear {size = size} {found = found} m point is at told = not_refused _ _ (told ∙ ap settled (put_told m size point found is at))
+
+-- also where the label was looked for only if the size covers the point
+pub put_looked_clear : {size : Size} {found : Option (BackRank × ForeRank)} {done : Unit {0}} (m : Meaning) (point : Point) → Sizes m size → Locates m point.label found ⊎ (covered size point.row.0 point.column.0 point.label.0 ≡ false) → Ok done ≡ settled (put_fault size (is_some found) point.row.0 point.column.0 point.label.0) → put_refusal m point.row.0 point.column.0 point.label.0 ≡ None
+put_looked_clear m point is (inl at) told = put_clear m point is at told
+put_looked_clear {size = size} m point is (inr other) told =
+    let taken = stands m point.label.0 in
+    let same = ap (λ (s : Size). put_fault s taken point.row.0 point.column.0 point.label.0) is in
+    not_refused _ _ (told ∙ ap settled (uncovered size _ taken point.row.0 point.column.0 point.label.0 other ∙ same))
 
 -- and what it declines, they decline
 pub put_declined : {size : Size} {found : Option (BackRank × ForeRank)} {changed : Meaning} {answer : Result (Unit {0}) Refusal} {e : Refusal} (m : Meaning) (point : Point) → Sizes m size → Locates m point.label found → answer ≡ Err e → Err e ≡ settled (put_fault size (is_some found) point.row.0 point.column.0 point.label.0) → Settles (put_refusal m point.row.0 point.column.0 point.label.0) m changed answer m

@@ -31,6 +31,8 @@ pub enum Answer {
 
 // Makes a call. A match over calls as values, since contracts speak of lists of them.
 pub fn serve<B: Board>(board: &mut B, call: Call) -> Answer
+    requires { B.ok board.old }
+    ensures ok { B.ok board.new }
     ensures serves { Serves (B.means board.old) call result (B.means board.new) }
 {
     match call {
@@ -44,6 +46,10 @@ pub fn serve<B: Board>(board: &mut B, call: Call) -> Answer
 
 // Makes a call on two boards. Where they mean the same they answer alike, and mean the same afterwards.
 pub fn serve_both<A: Board, B: Board>(one: &mut A, other: &mut B, call: Call) -> (Answer, Answer)
+    requires one { A.ok one.old }
+    requires other { B.ok other.old }
+    ensures one_ok { A.ok one.new }
+    ensures other_ok { B.ok other.new }
     ensures one { Serves (A.means one.old) call result.0 (A.means one.new) }
     ensures other { Serves (B.means other.old) call result.1 (B.means other.new) }
     ensures alike { A.means one.old ≡ B.means other.old → (result.0 ≡ result.1) × (A.means one.new ≡ B.means other.new) }
@@ -59,6 +65,10 @@ pub fn replay_both<A: Board, B: Board>(
     other: &mut B,
     calls: &[Call],
 ) -> Result<Vec<(Answer, Answer)>, AllocError>
+    requires one { A.ok one.old }
+    requires other { B.ok other.old }
+    ensures one_ok { A.ok one.new }
+    ensures other_ok { B.ok other.new }
     ensures one { MatchResult result (λ both. Runs (A.means one.old) calls.now (of_one both.items) (A.means one.new)) (λ _. A.means one.new ≡ A.means one.old) }
     ensures other { MatchResult result (λ both. Runs (B.means other.old) calls.now (of_other both.items) (B.means other.new)) (λ _. B.means other.new ≡ B.means other.old) }
     ensures alike { A.means one.old ≡ B.means other.old → IfOk result (λ both. (of_one both.items ≡ of_other both.items) × (A.means one.new ≡ B.means other.new)) }

@@ -22,14 +22,20 @@ struct Load {
 const QUESTIONS: u32 = 400000;
 
 // Widens a board to so many rows. Here and below, a call that is refused would show in what is printed.
-fn widen_to<B: Board>(board: &mut B, rows: u16) {
+fn widen_to<B: Board>(board: &mut B, rows: u16)
+    requires { B.ok board.old }
+    ensures { B.ok board.new }
+{
     for row in BYTE_STRANDS..rows {
         let _ = board.widen(BackRank(row / 2), ForeRank(row / 3));
     }
 }
 
 // Points with labels from 0 on, spread over the rows.
-fn put_points<B: Board>(board: &mut B, load: Load) {
+fn put_points<B: Board>(board: &mut B, load: Load)
+    requires { B.ok board.old }
+    ensures { B.ok board.new }
+{
     for label in 0..load.points {
         let _ = board.put(Point {
             row: BackRank(label % 256),
@@ -40,7 +46,9 @@ fn put_points<B: Board>(board: &mut B, load: Load) {
 }
 
 // Asks for labels as if thrown, each question going by the answer before it, and gives the sum of the rows.
-fn ask<B: Board>(board: &B, points: u16) -> u32 {
+fn ask<B: Board>(board: &B, points: u16) -> u32
+    requires { B.ok board.now }
+{
     let mut sum: u32 = 0;
     let mut seed: u32 = 1;
     for _ in 0..QUESTIONS {
@@ -54,7 +62,9 @@ fn ask<B: Board>(board: &B, points: u16) -> u32 {
 }
 
 // Fills a board, asks, and tells the time for one question.
-fn measure<B: Board>(rt: &HostRuntime, name: &str, board: &mut B, load: Load) -> io::Result<u32> {
+fn measure<B: Board>(rt: &HostRuntime, name: &str, board: &mut B, load: Load) -> io::Result<u32>
+    requires { B.ok board.old }
+{
     put_points(board, load);
     widen_to(board, load.rows);
     let start = Instant::now(rt)?;

@@ -1,4 +1,7 @@
-// List boards over tables of 0, 2, 4 and 3,000 records.
+// List boards over tables of 0, 2, 4 and 3,000 records, handed over by value and kept in an array.
+ghost use Rattle.list_board.specs.Listed.{listed};
+ghost use Rattle.list_board.specs.Listing.{Whole};
+
 use super::points::point;
 use board::Board;
 use board::points::Point;
@@ -58,4 +61,34 @@ fn a_table_of_three_thousand_records_gives_a_capacity_of_2048(rt: HostRuntime) -
     let board = ListBoard::new(&mut table);
     assert_eq!(rt; board.size().capacity, 2048);
     Ok(())
+}
+
+// Puts a point on a board that is handed over.
+fn put_on(board: ListBoard<'_>, point: Point) -> Result<(), Refusal>
+    requires { Whole (listed board) }
+{
+    let mut board = board;
+    board.put(point)
+}
+
+#[test]
+fn a_board_that_is_handed_over_takes_a_point(rt: HostRuntime) {
+    let mut table = [old(); 2];
+    assert_eq!(rt;
+        put_on(ListBoard::new(&mut table), point(7, 8, 300)),
+        Ok(())
+    );
+    assert_eq!(rt; table[0], point(7, 8, 300));
+    assert_eq!(rt; table[1], old());
+}
+
+#[test]
+fn boards_in_an_array_take_points(rt: HostRuntime) {
+    let mut one = [old(); 1];
+    let mut other = [old(); 1];
+    let mut boards = [ListBoard::new(&mut one), ListBoard::new(&mut other)];
+    assert_eq!(rt; boards[1].put(point(1, 2, 3)), Ok(()));
+    assert_eq!(rt; boards[0].size().points, 0);
+    assert_eq!(rt; boards[1].size().points, 1);
+    assert_eq!(rt; boards[1].put(point(1, 2, 4)), Err(Refusal::BoardFull));
 }

@@ -8,7 +8,7 @@ use Rattle.grammar.specs.Limits.{max_strands}
 use Rattle.grammar.specs.declared.refusals.Refusal.TheVariants.{OffBoard}
 use Rattle.grammar.specs.declared.strands.Strand.{Strand}
 use Rattle.board.specs.Answering.{Locates, ranked}
-use Rattle.board.specs.Meaning.{count, placed, widened, moved_point}
+use Rattle.board.specs.Meaning.{placed, widened, moved_point}
 use Rattle.board.proofs.Meanings.{clean_proper, count-clean, placed_as, widened_as}
 use Rattle.board.specs.declared.points.Point.{Point}
 use Rattle.list_board.specs.Listing.{Listing, Whole, Follows, IndexOf, records, place_in, zero_point, distinct, meaning, fresh, with_point, with_opening, moved_record}
@@ -70,33 +70,6 @@ open_whole b row column rows columns whole =
       once = ap distinct (open_records b row column whole) ∙ (distinct_moved row column (records b) ∙ whole.once);
       counted = held.0;
       proper = held.1;
-    }
-
--- a row and a column more, with every point where it was
-abbrev pub roomier : Listing → Listing
-roomier b = record { table = b.table; filled = b.filled; rows = b.rows + 1; columns = b.columns + 1 }
-
-count_roomier : (b : Listing) → count (meaning (roomier b)) ≡ count (meaning b)
-unfolding count
-count_roomier b = refl
-
-pub roomier_whole : (b : Listing) → b.rows < max_strands → b.columns < max_strands → Whole b → Whole (roomier b)
-roomier_whole b rows columns whole =
-    let same = count_roomier b in
-    let w = whole.proper in
-    record {
-      fits = whole.fits;
-      once = whole.once;
-      counted = same ∙ whole.counted;
-      proper =
-          record {
-            rows_few = omega arith;
-            columns_few = omega arith;
-            capacity_few = w.capacity_few;
-            points_few = omega (arith, same, w.points_few);
-            labels_low = w.labels_low;
-            on_board = λ label row column at. let on = w.on_board label row column at in (omega (arith, on.0), omega (arith, on.1));
-          };
     }
 
 -- the table after each filled record is changed

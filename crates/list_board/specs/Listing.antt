@@ -41,7 +41,7 @@ distinct (p ∷ ps) = not (is_some (place_in ps p.label.0)) && distinct ps
 abbrev pub meaning : Listing → Meaning
 meaning b = record { rows = b.rows; columns = b.columns; capacity = length b.table; at = place_in (records b) }
 
--- what holds of every list board: the filled records fit the table, each has a label of its own, and they are all the points
+-- what every call asks and keeps: the filled records fit the table, each has a label of its own, and they are all the points
 pub record Whole (b : Listing) : Type 0 where
   pub fits : b.filled ≤ length b.table
   pub once : distinct (records b) ≡ true

@@ -3,6 +3,7 @@ ghost use Rattle.std.specs.Prelude.{◌≡◌, min, length};
 ghost use Rattle.board.specs.Answering.{Puts, Widens};
 ghost use Rattle.board.specs.Meaning.{clean};
 ghost use Rattle.grammar.specs.Limits.{max_strands};
+ghost use Rattle.list_board.specs.Listed.{listed};
 ghost use Rattle.list_board.specs.Listing.{Follows, IndexOf, Whole, fresh, leaves, meaning, records, with_opening, with_point};
 
 use board::Board;
@@ -15,21 +16,20 @@ use grammar::refusals::Refusal;
 use grammar::strands::{BackRank, ForeRank, Strand};
 
 // Points in the order put, in a table that the caller lends, with their number beside it: small units have no heap. What
-// holds of them is a fact of the type, which callers can read; an `impl Model` would hide it.
+// every call asks of them and keeps is said by the calls, and not by the type: so a function may take a board by value, and
+// boards may stand in an array.
 #[derive(Drop)]
 pub struct ListBoard<'a> {
     table: &'a mut [Point],
     filled: usize,
     rows: u16,
     columns: u16,
-    pub ghost whole: { Whole (record { table = table.now; filled = filled; rows = rows; columns = columns }) },
 }
 
 impl<'a> ListBoard<'a> {
-    ghost use Rattle.list_board.specs.Listed.{listed};
-
     // A clean board. Its capacity is the table's length, or 2,048 where the table is longer.
     pub fn new(table: &'a mut [Point]) -> ListBoard<'a>
+        ensures ok { Whole (listed result) }
         ensures is { listed result ≡ fresh table.old }
         ensures means { meaning (listed result) ≡ clean (min (length table.old) max_strands) }
     {
@@ -44,6 +44,7 @@ impl<'a> ListBoard<'a> {
 
     // The points in the order put.
     pub fn points(&self) -> &[Point]
+        requires { Whole (listed self.now) }
         ensures { result.now ≡ records (listed self.now) }
     {
         &self.table[0..self.filled]
@@ -52,6 +53,7 @@ impl<'a> ListBoard<'a> {
     // The index of a label's record, or that the label is absent. It goes through the records with their index, the form
     // that docs/DECISIONS.md keeps for it.
     fn index_of(&self, label: Strand) -> Option<usize>
+        requires { Whole (listed self.now) }
         ensures { IndexOf (records (listed self.now)) label.0 result }
     {
         for (i, point) in self.points().iter().enumerate() {
@@ -65,13 +67,13 @@ impl<'a> ListBoard<'a> {
 
 #[tactic(auto, using(crate::proofs::Listings::stays))]
 impl Board for ListBoard<'_> {
-    ghost use Rattle.list_board.specs.Listed.{listed};
-
     ghost means = { λ b. meaning (listed b) };
+
+    ghost ok = { λ b. Whole (listed b) };
 
     ghost keeps = { λ b after. Follows (listed b) (listed after) };
 
-    ghost proper = { λ b. b.whole.proper };
+    ghost proper = { λ _ whole. whole.proper };
 
     fn size(&self) -> Size {
         Size {
@@ -84,6 +86,8 @@ impl Board for ListBoard<'_> {
 
     // Moves the points at or past the row or the column, where they stand.
     fn widen(&mut self, row: BackRank, column: ForeRank) -> Result<(), Refusal>
+        requires { Whole (listed self.old) }
+        ensures ok { Whole (listed self.new) }
         ensures keeps { Follows (listed self.old) (listed self.new) }
         ensures widens { Widens (meaning (listed self.old)) row column result (meaning (listed self.new)) }
         ensures holds { listed self.new ≡ leaves result (listed self.old) (with_opening (listed self.old) row.0 column.0) }
@@ -105,6 +109,8 @@ impl Board for ListBoard<'_> {
 
     // Puts a point behind the others.
     fn put(&mut self, point: Point) -> Result<(), Refusal>
+        requires { Whole (listed self.old) }
+        ensures ok { Whole (listed self.new) }
         ensures keeps { Follows (listed self.old) (listed self.new) }
         ensures puts { Puts (meaning (listed self.old)) point result (meaning (listed self.new)) }
         ensures holds { listed self.new ≡ leaves result (listed self.old) (with_point (listed self.old) point) }

@@ -13,6 +13,8 @@ loop-call-preserved g c =
     let step = c.serve_both-both.ensures in
     let more = c.push_reserved.ensures in
     record {
+      one_ok = step.one_ok;
+      other_ok = step.other_ok;
       one = run_more calls (of_one answers) _ at _ _ _ _ _ _ c.loop-call-test.true refl (ap of_one more.items ∙ map-append _ answers _) i.one step.one;
       other = run_more calls (of_other answers) _ at _ _ _ _ _ _ c.loop-call-test.true refl (ap of_other more.items ∙ map-append _ answers _) i.other step.other;
       long = ap length more.items ∙ (length_push answers _ ∙ omega arith);

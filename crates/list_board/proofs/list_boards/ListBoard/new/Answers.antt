@@ -11,8 +11,8 @@ made front = record { table = front; filled = 0; rows = byte_strand_count; colum
 made_fresh : (table : List Point) (k : ℕ) → k ≡ min (length table) max_strands → made (take (k - 0) table) ≡ fresh table
 made_fresh table k is = ap made (front_is table k is)
 
-pub invariant_of-result : goal.invariant_of-result
-invariant_of-result c = record { whole = subst Whole (sym (made_fresh c.args.table.now _ c.min-capacity.ensures)) (fresh_whole c.args.table.now) }
+pub returns-clause-ok : goal.returns-clause-ok
+returns-clause-ok c = subst Whole (sym (made_fresh c.args.table.now _ c.min-capacity.ensures)) (fresh_whole c.args.table.now)
 
 pub returns-clause-is : goal.returns-clause-is
 returns-clause-is c = made_fresh c.args.table.now _ c.min-capacity.ensures

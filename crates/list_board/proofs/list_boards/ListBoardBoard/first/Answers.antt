@@ -16,7 +16,7 @@ loop-point-preserved c =
     let i = c.loop-point.point-index in
     let long : i < length ps = omega (arith, ap length c.points-point-items.ensures, c.loop-point-test.true) in
     let is = ap (λ qs. get_or qs i zero_point) c.points-point-items.ensures in
-    let step = least_after c.args.within c.args.floor.0 i ps _ c.loop-point.least c.if-is_hit.least c.is_hit.result c.args.self.now.whole.once long is c.loop-point.invariant c.is_hit.ensures in
+    let step = least_after c.args.within c.args.floor.0 i ps _ c.loop-point.least c.if-is_hit.least c.is_hit.result c.requires.once long is c.loop-point.invariant c.is_hit.ensures in
     elim c.if-is_hit.branch [
       | then-is_hit w ↦ step (w.least-is ∙ (w.lowest_of-least.ensures ∙ sym (cond-true c.is_hit.result _ _ w.if-is_hit.true)))
       | else-is_hit w ↦ step (w.least-is ∙ sym (cond-false c.is_hit.result _ _ w.if-is_hit.false))
