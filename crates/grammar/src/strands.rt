@@ -1,5 +1,5 @@
 // Strands, their ranks and pairs of them. Strand, fore rank and back rank are types of their own, with no conversion
-// between them but by their numbers: a book goes from one to another only by its order tables.
+// between them: a book goes from one to another only by its order tables.
 ghost use Rattle.std.specs.Prelude.{◌≡◌, ℕ};
 
 // A strand by its number: 0 to 255 are the byte strands, and pairs go from 256 on in the order of joining.
