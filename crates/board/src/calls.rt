@@ -3,6 +3,7 @@ ghost use Rattle.std.specs.Prelude.{◌≡◌, IfOk, MatchResult};
 ghost use Rattle.board.specs.Serving.{Serves, Runs, of_one, of_other};
 
 use crate::Board;
+use crate::kept::KeptBoard;
 use crate::points::Point;
 use crate::rectangles::Rectangle;
 use crate::sizes::Size;
@@ -59,7 +60,7 @@ pub fn serve_both<A: Board, B: Board>(one: &mut A, other: &mut B, call: Call) ->
 
 // Makes the same list of calls on two boards, side by side, and keeps what both answer. Where the boards mean the same,
 // every call is answered alike. Memory is taken first: where it is short, no call is made.
-pub fn replay_both<A: Board, B: Board>(
+pub fn replay_both_ok<A: Board, B: Board>(
     heap: Global,
     one: &mut A,
     other: &mut B,
@@ -79,4 +80,18 @@ pub fn replay_both<A: Board, B: Board>(
         answers.push_reserved(both);
     }
     Ok(answers)
+}
+
+// The same for boards whose types hold what their calls ask, so that it asks for nothing.
+pub fn replay_both<A: KeptBoard, B: KeptBoard>(
+    heap: Global,
+    one: &mut A,
+    other: &mut B,
+    calls: &[Call],
+) -> Result<Vec<(Answer, Answer)>, AllocError>
+    ensures one { MatchResult result (λ both. Runs (A.means one.old) calls.now (of_one both.items) (A.means one.new)) (λ _. A.means one.new ≡ A.means one.old) }
+    ensures other { MatchResult result (λ both. Runs (B.means other.old) calls.now (of_other both.items) (B.means other.new)) (λ _. B.means other.new ≡ B.means other.old) }
+    ensures alike { A.means one.old ≡ B.means other.old → IfOk result (λ both. (of_one both.items ≡ of_other both.items) × (A.means one.new ≡ B.means other.new)) }
+{
+    replay_both_ok(heap, one, other, calls)
 }

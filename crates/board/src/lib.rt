@@ -7,6 +7,7 @@ ghost use Rattle.board.specs.Answering.{Sizes, Widens, Puts, Locates, Firsts};
 
 pub mod calls;
 pub mod changes;
+pub mod kept;
 pub mod laws;
 pub mod points;
 pub mod rectangles;

@@ -2,7 +2,7 @@
 use super::points::point;
 use super::side_by_side::side_by_side;
 use super::throws::thrown;
-use board::calls::{Answer, Call, replay_both};
+use board::calls::{Answer, Call, replay_both_ok};
 use board::points::Point;
 use board::rectangles::Rectangle;
 use grammar::refusals::Refusal;
@@ -194,7 +194,7 @@ fn all_labels_fit_a_list_board(rt: HostRuntime) -> Result<(), Fail> {
     let mut just = vec![in rt.alloc(); Point::default(); 2048]?;
     let mut one = ListBoard::new(&mut long);
     let mut other = ListBoard::new(&mut just);
-    let answers = replay_both(rt.alloc(), &mut one, &mut other, calls.as_slice())?;
+    let answers = replay_both_ok(rt.alloc(), &mut one, &mut other, calls.as_slice())?;
     assert_eq!(rt; answers.len(), 2049);
     settle_as(&rt, &answers, |i| {
         if i < 2048 {

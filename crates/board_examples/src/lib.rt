@@ -6,6 +6,8 @@ mod both_boards;
 #[cfg(test)]
 mod each_board;
 #[cfg(test)]
+mod kept_boards;
+#[cfg(test)]
 mod lent_tables;
 #[cfg(test)]
 mod points;

@@ -3,7 +3,7 @@ ghost use Rattle.std.specs.Prelude.{IfOk};
 ghost use Rattle.board.specs.Serving.{of_one, of_other};
 ghost use Rattle.board_examples.specs.Alike.{AnswerAlike};
 
-use board::calls::{Answer, Call, replay_both};
+use board::calls::{Answer, Call, replay_both_ok};
 use board::points::Point;
 use chained_board::chained_boards::ChainedBoard;
 use grammar::limits::MAX_PAIRS;
@@ -17,5 +17,5 @@ pub fn side_by_side(heap: Global, calls: &[Call]) -> Result<Vec<(Answer, Answer)
     let mut table = vec![in heap; Point::default(); MAX_PAIRS as usize]?;
     let mut list = ListBoard::new(&mut table);
     let mut chained = ChainedBoard::new(heap)?;
-    replay_both(heap, &mut list, &mut chained, calls)
+    replay_both_ok(heap, &mut list, &mut chained, calls)
 }

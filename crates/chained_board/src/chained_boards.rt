@@ -6,6 +6,7 @@ ghost use Rattle.chained_board.specs.Chains.{Sound};
 
 use board::Board;
 use board::changes::{change_each, moved_up};
+use board::kept::KeptBoard;
 use board::points::Point;
 use board::rectangles::{Rectangle, lowest_of};
 use board::sizes::Size;
@@ -163,4 +164,8 @@ impl Board for ChainedBoard {
         }
         least
     }
+}
+
+impl KeptBoard for ChainedBoard {
+    ghost kept = { λ _. tt };
 }

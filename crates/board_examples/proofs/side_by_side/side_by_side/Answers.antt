@@ -12,4 +12,4 @@ pub returns : goal.returns
 returns c =
     let list_is : meaning (listed c.new-list.result) ≡ clean max_pairs = c.new-list.ensures.means ∙ ap clean (omega (arith, c.deref_mut.ensures.len, c.in_ok-table.ensures.len)) in
     let chained_is : chained_meaning c.in_ok-chained.chained ≡ clean max_pairs = c.in_ok-chained.ensures in
-    answer_alike (λ v. of_one (vec_items v)) (λ v. of_other (vec_items v)) c.replay_both.result _ _ _ _ _ list_is (list_is ∙ sym chained_is) c.replay_both.ensures.one c.replay_both.ensures.alike
+    answer_alike (λ v. of_one (vec_items v)) (λ v. of_other (vec_items v)) c.replay_both_ok.result _ _ _ _ _ list_is (list_is ∙ sym chained_is) c.replay_both_ok.ensures.one c.replay_both_ok.ensures.alike

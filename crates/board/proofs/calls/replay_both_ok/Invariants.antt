@@ -1,6 +1,6 @@
 use Rattle.std.proofs.Common.{◌≡◌, ◌≤◌, length, take, vec_items, vec_capacity}
 use Rattle.board.specs.Serving.{Runs, of_one, of_other}
-use Rattle.board.proofs.calls.replay_both.Given as goal
+use Rattle.board.proofs.calls.replay_both_ok.Given as goal
 
 abbrev pub invariant-loop-call : goal.invariant-loop-call
 invariant-loop-call g l =

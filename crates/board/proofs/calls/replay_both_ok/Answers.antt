@@ -2,7 +2,7 @@ use Rattle.std.proofs.Common.{length, vec_items, refl, ap, ◌∙◌, arith}
 use Rattle.std.proofs.lemmas.List.{length_push, map-append}
 use Rattle.board.specs.Serving.{of_one, of_other}
 use Rattle.board.proofs.Serves.{run_more, run_all, runs_alike}
-use Rattle.board.proofs.calls.replay_both.Goals as goal
+use Rattle.board.proofs.calls.replay_both_ok.Goals as goal
 
 pub loop-call-preserved : goal.loop-call-preserved
 loop-call-preserved g c =
