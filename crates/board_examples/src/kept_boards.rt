@@ -58,9 +58,57 @@ fn put_two<B: KeptBoard>(
     (board.put(one), board.put(other))
 }
 
-// The same of a list board behind a reference.
+// A survey's board, in a struct that says nothing of it.
+#[derive(Drop)]
+struct Survey<'a> {
+    board: KeptListBoard<'a>,
+}
+
+impl Survey<'_> {
+    fn put(&mut self, point: Point) -> Result<(), Refusal> {
+        self.board.put(point)
+    }
+}
+
+#[test]
+fn a_kept_list_board_in_a_struct_takes_points(rt: HostRuntime) {
+    let mut table = [Point::default(); 1];
+    let mut survey = Survey {
+        board: KeptListBoard::new(&mut table),
+    };
+    assert_eq!(rt; survey.put(point(1, 2, 3)), Ok(()));
+    assert_eq!(rt; survey.put(point(1, 2, 4)), Err(Refusal::BoardFull));
+    assert_eq!(rt; survey.board.size().points, 1);
+}
+
+// Puts a point on a list board behind a reference.
 fn put_behind(board: &mut KeptListBoard<'_>, point: Point) -> Result<(), Refusal> {
     board.put(point)
+}
+
+// Puts a point on a board of whatever type.
+fn put_on_any(board: &mut dyn KeptBoard, point: Point) -> Result<(), Refusal> {
+    board.is_ok();
+    board.put(point)
+}
+
+#[test]
+fn kept_boards_of_any_type_take_points(rt: HostRuntime) -> Result<(), Fail> {
+    let mut table = [Point::default(); 1];
+    let mut list = KeptListBoard::new(&mut table);
+    let mut chained = ChainedBoard::new(rt.alloc())?;
+    assert_eq!(rt; put_on_any(&mut list, point(1, 2, 3)), Ok(()));
+    assert_eq!(rt;
+        put_on_any(&mut list, point(1, 2, 4)),
+        Err(Refusal::BoardFull)
+    );
+    assert_eq!(rt; put_on_any(&mut chained, point(1, 2, 3)), Ok(()));
+    assert_eq!(rt;
+        put_on_any(&mut chained, point(1, 256, 4)),
+        Err(Refusal::OffBoard)
+    );
+    assert_eq!(rt; chained.locate(Strand(3)), Some((BackRank(1), ForeRank(2))));
+    Ok(())
 }
 
 #[test]
@@ -146,6 +194,7 @@ fn kept_boards_answer_side_by_side(rt: HostRuntime) -> Result<(), Fail> {
             column: ForeRank(3),
         },
         Call::Locate { label: Strand(300) },
+        Call::AskSize,
         Call::First {
             within: all,
             floor: Strand(300),
@@ -160,16 +209,22 @@ fn kept_boards_answer_side_by_side(rt: HostRuntime) -> Result<(), Fail> {
         Answer::Settled(Err(Refusal::LabelTaken)),
         Answer::Settled(Ok(())),
         Answer::Place(Some((BackRank(2), ForeRank(2)))),
+        Answer::Counts(Size {
+            rows: 257,
+            columns: 257,
+            points: 1,
+            capacity: 1792,
+        }),
         Answer::Label(Some(Strand(300))),
         Answer::Label(None),
     ];
-    let mut table = [Point::default(); 2];
+    let mut table = [Point::default(); 1792];
     let mut list = KeptListBoard::new(&mut table);
     let mut relayed = Relayed {
         to: ChainedBoard::new(rt.alloc())?,
     };
     let answers = asked_of_both(rt.alloc(), &mut list, &mut relayed, &calls)?;
-    assert_eq!(rt; answers.len(), 6);
+    assert_eq!(rt; answers.len(), 7);
     for (both, answer) in answers.iter().zip(expected) {
         assert_eq!(rt; *both, (answer, answer));
     }

@@ -167,5 +167,5 @@ impl Board for ChainedBoard {
 }
 
 impl KeptBoard for ChainedBoard {
-    ghost kept = { λ _. tt };
+    ghost always_ok = { λ _. tt };
 }

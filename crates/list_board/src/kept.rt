@@ -85,5 +85,5 @@ impl Board for KeptListBoard<'_> {
 }
 
 impl KeptBoard for KeptListBoard<'_> {
-    ghost kept = { λ _. tt };
+    ghost always_ok = { λ _. tt };
 }
