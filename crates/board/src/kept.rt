@@ -11,18 +11,18 @@ use grammar::strands::{BackRank, ForeRank, Strand};
 
 // A board that is always as its calls ask: there is no other value of the type.
 pub trait KeptBoard: Board {
-    // Does nothing, and says that of this board: code that has one as a `dyn` calls it first, as the check finds the law
-    // under a bound alone.
+    // Does nothing, and ensures what calls ask: for code that has a board as a `dyn`, where the check does not find the law.
     fn is_ok(&self)
         ensures { Self.ok self.now }
     {}
 
+    // what every call asks holds of every board of the type
     ghost always_ok: { (b : Self) → Self.ok b };
 }
 
 // The calls of a board for a type that holds what they ask: they ask nothing. A type that has them has those of `Board`
-// and is kept, with no more to write. What a call of such a type ensures beside these clauses is known where it is called
-// by this trait; called by `Board` it tells what every board's does.
+// and is kept, with no more to write. Clauses that a type adds to a call are known where it is called by this trait; called
+// by `Board`, it ensures what every board's does.
 pub trait PlainBoard {
     // what a board means: its rows, its columns, its capacity and its points
     ghost means: { Self → Meaning };

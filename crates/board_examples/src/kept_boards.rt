@@ -1,4 +1,5 @@
-// Boards whose types hold what their calls ask: behind a reference, under a bound, and side by side.
+// Boards whose types hold what their calls ask: behind a reference, in a struct, by a type parameter, by a `dyn`, and side
+// by side.
 ghost use Rattle.chained_board.specs.Boards.{Stays, meaning};
 
 use super::points::point;
